@@ -1,0 +1,4 @@
+pub mod Between
+pub mod FullModel
+pub mod Meanings
+pub mod TestedPoints

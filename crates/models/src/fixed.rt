@@ -1,0 +1,16 @@
+// A model whose kinds have one delay and one output step each.
+ghost use Prim.Native.Nat.{_≤_};
+ghost use Rattle.std.specs.Of.Vec.{vec-items, vec-cap, vec-len};
+ghost use Rattle.models.specs.Kinds.{FixedDelaysFit, FixedOutputsFit};
+ghost use Rattle.models.specs.Meaning.{max-kinds};
+
+pub mod calls;
+
+#[derive(Drop)]
+pub struct Fixed {
+    kinds: Vec<(u32, u8)>,
+    ghost few: { vec-len kinds ≤ max-kinds },
+    ghost room: { max-kinds ≤ vec-cap kinds },
+    ghost delays: { FixedDelaysFit (vec-items kinds) },
+    ghost outputs: { FixedOutputsFit (vec-items kinds) },
+}
