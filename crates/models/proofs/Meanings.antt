@@ -113,9 +113,9 @@ pub points-lawful : (kinds : List (List Point)) → length kinds ≤ max-kinds �
 points-lawful kinds few sound = record {
   few = few;
   delay = held-lawful (length kinds) max-delay (λ k s. interpolated delay-of (getD kinds k []) s)
-    (λ k s l. sound k .delays-fit s l)
-    (λ k s t h _. interpolated-rises delay-of (getD kinds k []) s t (sound k .steps) (sound k .delays) h);
+      (λ k s l. sound k .delays-fit s l)
+      (λ k s t h _. interpolated-rises delay-of (getD kinds k []) s t (sound k .steps) (sound k .delays) h);
   output-step = held-lawful (length kinds) last-step (λ k s. interpolated output-of (getD kinds k []) s)
-    (λ k s _. interpolated-at-most output-of last-step (getD kinds k []) s (sound k .outputs) (sound k .outputs-fit))
-    (λ k s t h _. interpolated-rises output-of (getD kinds k []) s t (sound k .steps) (sound k .outputs) h);
+      (λ k s _. interpolated-at-most output-of last-step (getD kinds k []) s (sound k .outputs) (sound k .outputs-fit))
+      (λ k s t h _. interpolated-rises output-of (getD kinds k []) s t (sound k .steps) (sound k .outputs) h);
 }

@@ -23,7 +23,10 @@ impl<M> Derated<M> {
         ensures model { λ r. ⌜ r .model ≡ model ⌝ }
         ensures percent { λ r. ⌜ r .percent ≡ 100 ⌝ }
     {
-        Derated { model, percent: 100 }
+        Derated {
+            model,
+            percent: 100,
+        }
     }
 
     // Sets the percentage, from 1 to 1000.

@@ -39,6 +39,10 @@ impl ModelFault {
             ModelFault::OutputStepTooLarge(point) => (7, point),
             ModelFault::Percent(percent) => (8, percent as usize),
         };
-        Refusal { layer: Layer::Model, number, place }
+        Refusal {
+            layer: Layer::Model,
+            number,
+            place,
+        }
     }
 }

@@ -54,7 +54,12 @@ fn interpolate(points: &[Point], step: u8) -> (u32, u8)
     let past = u32::from(step - lower.step);
     let span = u32::from(upper.step - lower.step);
     let delay = part_way(wide_delay(&lower), wide_delay(&upper), past, span);
-    let output_step = part_way(lower.output_step as u32, upper.output_step as u32, past, span);
+    let output_step = part_way(
+        lower.output_step as u32,
+        upper.output_step as u32,
+        past,
+        span,
+    );
     (delay, output_step as u8)
 }
 

@@ -12,6 +12,7 @@ use units::steps::LAST_STEP;
 
 // The fewest and the most points of a kind.
 pub const MIN_POINTS: usize = 2;
+
 pub const MAX_POINTS: usize = 8;
 
 // A test of a point against the one before it.

@@ -44,9 +44,9 @@ none-holds test refusal a (suc n) h =
 pub first-holds : (test : ℕ → Bool) (refusal : ℕ → Refusal) (a n i : ℕ) → a ≤ i → i < a + n → test i ≡ true → ((j : ℕ) → a ≤ j → j < i → test j ≡ false) → first (numbered test refusal a n) ≡ Some (refusal i)
 first-holds test refusal a zero i l u e h = absurd (omega arith)
 first-holds test refusal a (suc n) i l u e h = elim (eq-or-lt-of-le l) [
-    inl same ↦ let t : test a ≡ true = ap test same ∙ e in rw t (ap (λ k. Some (refusal k)) same)
+  | inl same ↦ let t : test a ≡ true = ap test same ∙ e in rw t (ap (λ k. Some (refusal k)) same)
   | inr less ↦
       let f : test a ≡ false = h a (omega arith) less in
       let rest = first-holds test refusal (a + 1) n i (omega arith) (omega arith) e (λ j k m. h j (omega arith) m) in
       rw f rest
-  ]
+]

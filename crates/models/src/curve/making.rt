@@ -20,7 +20,11 @@ fn padded(points: &[Point]) -> [Point; MAX_POINTS]
     requires { ⌜ length (now points) ≤ 8 ⌝ }
     ensures { λ r. ⌜ take (length (now (points .entry))) r ≡ now (points .entry) ⌝ }
 {
-    let mut row = [Point { step: 0, delay: 0, output_step: 0 }; MAX_POINTS];
+    let mut row = [Point {
+        step: 0,
+        delay: 0,
+        output_step: 0,
+    }; MAX_POINTS];
     for i in 0..points.len() {
         row[i] = points[i];
     }
@@ -36,7 +40,11 @@ impl Curve {
         }
         let row = padded(points);
         let figures = tabulate(points);
-        Ok(Curve { points: row, len: points.len(), figures })
+        Ok(Curve {
+            points: row,
+            len: points.len(),
+            figures,
+        })
     }
 
     // The points of the kind.

@@ -16,6 +16,6 @@ loop-i-again g c = λ j l u.
     let here : fails-at test ps i ≡ false = sym (c .if-fails .ensures tt ∙ ap (λ (k : ℕ). test (point-at ps k) (point-at ps i)) (c .saturating-sub .ensures)) in
     let le : j ≤ i = omega arith in
     elim (eq-or-lt-of-le le) [
-      inl same ↦ ap (fails-at test ps) same ∙ here
-    | inr less ↦ c .loop-i .inv j l less
+      | inl same ↦ ap (fails-at test ps) same ∙ here
+      | inr less ↦ c .loop-i .inv j l less
     ]

@@ -33,14 +33,16 @@ returns c =
     let steps = c .in-rest .ensures tt in
     let delays = c .in-rest-first-failing .ensures tt in
     let outputs = c .in-rest-first-failing-2 .ensures tt in
-    let sizes = c .in-rest-first-failing-3 .ensures tt in
-    (none-refused ps shape steps delays outputs sizes, record {
-      two = search needs;
-      eight = search needs;
-      starts = search needs;
-      ends = search needs;
-      steps = steps-rise ps steps;
-      delays = delays-rise ps delays;
-      outputs = outputs-rise ps outputs;
-      outputs-fit = outputs-small ps sizes;
-    })
+    let sizes = c .in-rest-first-failing-3 .ensures tt in (
+      none-refused ps shape steps delays outputs sizes,
+      record {
+        two = search needs;
+        eight = search needs;
+        starts = search needs;
+        ends = search needs;
+        steps = steps-rise ps steps;
+        delays = delays-rise ps delays;
+        outputs = outputs-rise ps outputs;
+        outputs-fit = outputs-small ps sizes;
+      },
+    )

@@ -1,0 +1,3 @@
+pub mod ArcLists
+pub mod Faults
+pub mod Orders

@@ -1,0 +1,4 @@
+// The report of a block file: from bytes to text.
+pub mod areas;
+pub mod lines;
+pub mod reporting;
