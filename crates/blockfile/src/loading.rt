@@ -17,30 +17,22 @@ use models::point::Point;
 use models::points::Points;
 use network::draft::Draft;
 use network::draft::Side;
+use network::draft::figures::test_launch;
+use network::draft::figures::test_limit;
 use network::faults::DraftFault;
-use paths::blocks::LARGEST_LIMIT;
-use paths::blocks::LATEST_LAUNCH;
 use paths::blocks::MAX_NETS;
 use paths::blocks::Net;
-use units::steps::LONGEST_TRANSITION;
 
-fn check_launch(net: &Net) -> Result<(), DraftFault> {
+// Tests the figures of a net in the order of its record.
+fn test_figures(net: &Net) -> Result<(), DraftFault> {
     if let Some(launch) = net.launch {
-        if launch.time > LATEST_LAUNCH {
-            return Err(DraftFault::LaunchTooLate(launch.time));
-        }
-        if launch.transition > LONGEST_TRANSITION {
-            return Err(DraftFault::TransitionTooLong(launch.transition));
-        }
+        test_launch(launch.time, launch.transition)?;
     }
-    Ok(())
-}
-
-fn check_limit(limit: Option<u32>) -> Result<(), DraftFault> {
-    if let Some(value) = limit {
-        if value > LARGEST_LIMIT {
-            return Err(DraftFault::LimitTooLarge(value));
-        }
+    if let Some(value) = net.late_limit {
+        test_limit(value)?;
+    }
+    if let Some(value) = net.early_limit {
+        test_limit(value)?;
     }
     Ok(())
 }
@@ -50,9 +42,7 @@ fn add_net(draft: &mut Draft, net: Net) -> Result<(), DraftFault> {
     if draft.nets().len() >= MAX_NETS {
         return Err(DraftFault::NetsFull);
     }
-    check_launch(&net)?;
-    check_limit(net.late_limit)?;
-    check_limit(net.early_limit)?;
+    test_figures(&net)?;
     let number = draft.net()?;
     if let Some(launch) = net.launch {
         draft.launch(number, launch.time, launch.transition)?;

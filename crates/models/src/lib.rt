@@ -1,11 +1,11 @@
 // Delay models: the interface, kinds given by points, kinds of fixed figures, derating, and a choice of two models.
-pub mod curve;
+mod curve;
 pub mod delay_model;
 pub mod derated;
 pub mod either;
 pub mod faults;
 pub mod fixed;
-pub mod interpolation;
+mod interpolation;
 pub mod point;
-pub mod point_tests;
+mod point_tests;
 pub mod points;

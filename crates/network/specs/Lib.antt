@@ -1,3 +1,4 @@
 pub mod ArcLists
 pub mod Faults
+pub mod Figures
 pub mod Orders

@@ -7,6 +7,7 @@ use paths::blocks::Arc;
 use paths::blocks::Net;
 
 mod building;
+pub mod figures;
 mod settling;
 
 // Which of a net's two limits.

@@ -10,9 +10,9 @@ last-step = 31
 abbrev pub picoseconds : ℕ → ℕ
 picoseconds s = 10 * s + s * s
 
--- the longest transition that a step stands for
+-- the longest transition that a step stands for: 1271
 abbrev pub longest-transition : ℕ
-longest-transition = 1271
+longest-transition = picoseconds last-step
 
 -- the smallest step that stands for at least that many picoseconds, or the last where none does
 pub record RoundedUp (transition step : ℕ) : Type 0 where

@@ -3,18 +3,17 @@ ghost use mathlib.Core.Path.{_≡_};
 ghost use Rattle.std.specs.Of.Vec.{vec-items};
 use super::Draft;
 use super::Side;
+use super::figures::test_launch;
+use super::figures::test_limit;
 use crate::faults::DraftFault;
 use paths::blocks::Arc;
-use paths::blocks::LARGEST_LIMIT;
 use paths::blocks::LAST_KIND;
-use paths::blocks::LATEST_LAUNCH;
 use paths::blocks::Launch;
 use paths::blocks::MAX_ARCS;
 use paths::blocks::MAX_NETS;
 use paths::blocks::Net;
 use std::alloc::AllocError;
 use std::alloc::Global;
-use units::steps::LONGEST_TRANSITION;
 
 impl Draft {
     // A draft with no nets and no arcs.
@@ -75,12 +74,7 @@ impl Draft {
         if n >= self.nets.len() {
             return Err(DraftFault::NoSuchNet(net));
         }
-        if time > LATEST_LAUNCH {
-            return Err(DraftFault::LaunchTooLate(time));
-        }
-        if transition > LONGEST_TRANSITION {
-            return Err(DraftFault::TransitionTooLong(transition));
-        }
+        test_launch(time, transition)?;
         self.nets[n].launch = Some(Launch { time, transition });
         Ok(())
     }
@@ -91,9 +85,7 @@ impl Draft {
         if n >= self.nets.len() {
             return Err(DraftFault::NoSuchNet(net));
         }
-        if value > LARGEST_LIMIT {
-            return Err(DraftFault::LimitTooLarge(value));
-        }
+        test_limit(value)?;
         match side {
             Side::Late => {
                 self.nets[n].late_limit = Some(value);
