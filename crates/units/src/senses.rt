@@ -17,8 +17,8 @@ pub trait Sense {
         ensures { λ r. ⌜ r ≡ order .as-bad a b ⌝ };
 
     // The same of figures that are never negative: times and steps.
-    fn as_bad_unsigned(a: u32, b: u32) -> bool
-        ensures { λ r. ⌜ r ≡ order .as-bad (pos a) (pos b) ⌝ };
+    fn as_bad_unsigned(x: u32, y: u32) -> bool
+        ensures { λ r. ⌜ r ≡ order .as-bad (pos x) (pos y) ⌝ };
 
     // The slack of a time against a required time.
     fn slack(time: u32, required: i32) -> i64
@@ -39,8 +39,8 @@ pub impl Sense for Late as LateSense {
         a >= b
     }
 
-    fn as_bad_unsigned(a: u32, b: u32) -> bool {
-        a >= b
+    fn as_bad_unsigned(x: u32, y: u32) -> bool {
+        x >= y
     }
 
     fn slack(time: u32, required: i32) -> i64 {
@@ -62,8 +62,8 @@ pub impl Sense for Early as EarlySense {
         a <= b
     }
 
-    fn as_bad_unsigned(a: u32, b: u32) -> bool {
-        a <= b
+    fn as_bad_unsigned(x: u32, y: u32) -> bool {
+        x <= y
     }
 
     fn slack(time: u32, required: i32) -> i64 {
