@@ -11,8 +11,8 @@ use Rattle.blockfile.specs.declared.records.Record.{Record}
 use Rattle.blockfile.specs.declared.records.Record.the-variants as records
 
 -- the most points of a kind: one for each bit of its map
-abbrev pub max-points : ℕ
-max-points = 8
+abbrev pub map-bits : ℕ
+map-bits = 8
 
 -- the bytes of a point
 abbrev pub point-len : ℕ
@@ -39,7 +39,7 @@ fields-len tag map = cond (eqb tag 1) (net-len map) (cond (eqb tag 2) (arc-len m
 abbrev pub PartsFit : Record → Type 0
 PartsFit (records.Net launch transition late early) = (length (launch .now) ≤ 4) × (length (transition .now) ≤ 2) × (length (late .now) ≤ 4) × (length (early .now) ≤ 4)
 PartsFit (records.Arc tail head kind) = (length (tail .now) ≤ 2) × (length (head .now) ≤ 2) × (length (kind .now) ≤ 1)
-PartsFit (records.Kind points) = length (points .now) ≤ point-len * max-points
+PartsFit (records.Kind points) = length (points .now) ≤ point-len * map-bits
 
 -- a record that was read goes on past its place, within the file
 abbrev pub Advances : ℕ → ℕ → Result (Record × ℕ) ReaderFault → Type 0

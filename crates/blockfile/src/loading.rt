@@ -1,7 +1,7 @@
 // Loading a block file into a draft and a model of points.
 ghost use Prim.Native.Nat.{_*_, _≤_};
 ghost use lib.ListN.{length};
-ghost use Rattle.blockfile.specs.Parts.{max-points, point-len, PartsFit};
+ghost use Rattle.blockfile.specs.Parts.{map-bits, point-len, PartsFit};
 use crate::faults::LoadCause;
 use crate::faults::LoadFault;
 use crate::fields::net_of;
@@ -9,7 +9,7 @@ use crate::fields::point_of;
 use crate::fields::u8_of;
 use crate::fields::u16_of;
 use crate::reader::next_record;
-use crate::records::MAX_POINTS;
+use crate::records::MAP_BITS;
 use crate::records::POINT_LEN;
 use crate::records::Record;
 use models::faults::ModelFault;
@@ -58,14 +58,14 @@ fn add_net(draft: &mut Draft, net: Net) -> Result<(), DraftFault> {
 
 // Adds a kind by its points.
 fn add_kind(model: &mut Points, bytes: &[u8]) -> Result<u8, ModelFault>
-    requires { ⌜ length (now bytes) ≤ point-len * max-points ⌝ }
+    requires { ⌜ length (now bytes) ≤ point-len * map-bits ⌝ }
 {
     let count = bytes.len() / POINT_LEN;
     let mut points = [Point {
         step: 0,
         delay: 0,
         output_step: 0,
-    }; MAX_POINTS];
+    }; MAP_BITS];
     for i in 0..count {
         points[i] = point_of(bytes, i);
     }

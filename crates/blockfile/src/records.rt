@@ -44,7 +44,7 @@ pub const KIND_NUMBER_LEN: usize = 1;
 pub const POINT_LEN: usize = 4;
 
 // The most points of a kind: one for each bit of its map.
-pub const MAX_POINTS: usize = 8;
+pub const MAP_BITS: usize = 8;
 
 // The fields are parts of the file, low byte first; one that is absent is an empty part.
 #[derive(Clone, Copy)]

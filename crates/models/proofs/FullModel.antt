@@ -10,7 +10,7 @@ use Rattle.models.specs.Calls.{full-row}
 use Rattle.models.specs.Faults.{model-refusal}
 use Rattle.models.specs.Meaning.{max-kinds}
 
-pub refused-full : (count : ℕ) (rows : List Row) → max-kinds ≤ count → first (full-row count ∷ rows) ≡ Some (model-refusal 1 32)
+pub refused-full : (count : ℕ) (rows : List Row) → max-kinds ≤ count → first (full-row count ∷ rows) ≡ Some (model-refusal 1 max-kinds)
 refused-full count rows h = grind (arith, tells)
 
 pub past-full : (count : ℕ) (rows : List Row) → count < max-kinds → first (full-row count ∷ rows) ≡ first rows

@@ -7,6 +7,7 @@ use native.Mathlib.Nat.{zero-mul, mul-le-mul-right, le-refl, not-suc-le-zero}
 use native.Mathlib.Omega.{arith}
 use lib.Dec.{lit<}
 use lib.ListN.{length, getD}
+use Rattle.std.proofs.shelf.Lists.{getD-past}
 use Rattle.std.proofs.shelf.Ways.{tells}
 use Rattle.units.specs.Senses.{NeverFalls}
 use Rattle.units.specs.Steps.{last-step}
@@ -14,9 +15,9 @@ use Rattle.models.specs.declared.point.Point.{Point}
 use Rattle.models.specs.declared.curve.Curve.{Curve}
 use Rattle.models.specs.Curves.{points-of, kinds-of}
 use Rattle.models.specs.Derating.{derated}
-use Rattle.models.specs.Kinds.{step-of, delay-of, output-of, RisesBy, AtMost, DelaysFit, interpolated, points-meaning, FixedDelaysFit, FixedOutputsFit, fixed-meaning}
+use Rattle.models.specs.Kinds.{point-step, point-delay, point-output-step, RisesBy, AtMost, DelaysFit, interpolated, figures-at, Interpolates, points-meaning, FixedDelaysFit, FixedOutputStepsFit, fixed-meaning}
 use Rattle.models.specs.Meaning.{Meaning, LawfulFigure, Lawful, max-kinds, max-delay, where-held}
-use Rattle.models.proofs.Between.{div-rises, interpolated-rises, interpolated-at-most}
+use Rattle.models.proofs.Between.{div-rises, interpolated-rises, interpolated-at-most, interpolated-between}
 
 where-not-held : (count : ℕ) (figure : ℕ → ℕ → ℕ) (k s : ℕ) → count ≤ k → where-held count figure k s ≡ 0
 where-not-held count figure k s h = grind (arith, tells)
@@ -51,7 +52,7 @@ scaled-rises percent h = div-rises 100 (lit< tt) (mul-le-mul-right percent h)
 
 pub derated-lawful : (percent : ℕ) (m : Meaning) → Lawful m → Lawful (derated percent m)
 derated-lawful percent m l = record {
-  few = l .few;
+  count-fits = l .count-fits;
   delay = record {
     fits = λ k s. omega arith;
     not-held = λ k s h. let e : m .delay k s ≡ 0 = l .delay .not-held k s h in rw (e, zero-mul) refl;
@@ -63,11 +64,11 @@ derated-lawful percent m l = record {
 
 -- models of fixed figures
 
-pub fixed-lawful : (kinds : List (ℕ × ℕ)) → length kinds ≤ max-kinds → FixedDelaysFit kinds → FixedOutputsFit kinds → Lawful (fixed-meaning kinds)
-fixed-lawful kinds few delays outputs = record {
-  few = few;
+pub fixed-lawful : (kinds : List (ℕ × ℕ)) → length kinds ≤ max-kinds → FixedDelaysFit kinds → FixedOutputStepsFit kinds → Lawful (fixed-meaning kinds)
+fixed-lawful kinds few delays output-steps = record {
+  count-fits = few;
   delay = held-lawful (length kinds) max-delay (λ k s. getD kinds k (0, 0) .0) (λ k s _. delays k) (λ k s t _ _. le-refl _);
-  output-step = held-lawful (length kinds) last-step (λ k s. getD kinds k (0, 0) .1) (λ k s _. outputs k) (λ k s t _ _. le-refl _);
+  output-step = held-lawful (length kinds) last-step (λ k s. getD kinds k (0, 0) .1) (λ k s _. output-steps k) (λ k s t _ _. le-refl _);
 }
 
 -- what holds of every place of a list, and of its default, holds after a push
@@ -84,21 +85,21 @@ pushed-into P xs zs y d e h py pd k = subst (λ l. P (getD l k d)) (sym e) (push
 
 -- what the law of a kind rests on
 pub record SoundKind (ps : List Point) : Type 0 where
-  pub steps : RisesBy 1 step-of ps
-  pub delays : RisesBy 0 delay-of ps
-  pub outputs : RisesBy 0 output-of ps
+  pub steps : RisesBy 1 point-step ps
+  pub delays : RisesBy 0 point-delay ps
+  pub output-steps : RisesBy 0 point-output-step ps
   pub delays-fit : DelaysFit ps
-  pub outputs-fit : AtMost last-step output-of ps
+  pub output-steps-fit : AtMost last-step point-output-step ps
 
 pub sound-kinds : (curves : List Curve) (k : ℕ) → SoundKind (getD (kinds-of curves) k [])
 sound-kinds [] k = record {
   steps = λ i l. absurd (not-suc-le-zero l);
   delays = λ i l. absurd (not-suc-le-zero l);
-  outputs = λ i l. absurd (not-suc-le-zero l);
+  output-steps = λ i l. absurd (not-suc-le-zero l);
   delays-fit = λ s l. zero-le;
-  outputs-fit = λ i l. absurd (not-suc-le-zero l);
+  output-steps-fit = λ i l. absurd (not-suc-le-zero l);
 }
-sound-kinds (c ∷ curves) zero = record { steps = c .steps; delays = c .delays; outputs = c .outputs; delays-fit = c .«delays_fit»; outputs-fit = c .«outputs_fit» }
+sound-kinds (c ∷ curves) zero = record { steps = c .steps; delays = c .delays; output-steps = c .«output_steps»; delays-fit = c .«delays_fit»; output-steps-fit = c .«output_steps_fit» }
 sound-kinds (c ∷ curves) (suc k) = sound-kinds curves k
 
 pub kinds-push : (curves : List Curve) (c : Curve) → kinds-of (curves ++ c ∷ []) ≡ kinds-of curves ++ points-of c ∷ []
@@ -111,11 +112,25 @@ kinds-length (c ∷ curves) = ap suc (kinds-length curves)
 
 pub points-lawful : (kinds : List (List Point)) → length kinds ≤ max-kinds → ((k : ℕ) → SoundKind (getD kinds k [])) → Lawful (points-meaning kinds)
 points-lawful kinds few sound = record {
-  few = few;
-  delay = held-lawful (length kinds) max-delay (λ k s. interpolated delay-of (getD kinds k []) s)
+  count-fits = few;
+  delay = held-lawful (length kinds) max-delay (λ k s. interpolated point-delay (getD kinds k []) s)
       (λ k s l. sound k .delays-fit s l)
-      (λ k s t h _. interpolated-rises delay-of (getD kinds k []) s t (sound k .steps) (sound k .delays) h);
-  output-step = held-lawful (length kinds) last-step (λ k s. interpolated output-of (getD kinds k []) s)
-      (λ k s _. interpolated-at-most output-of last-step (getD kinds k []) s (sound k .outputs) (sound k .outputs-fit))
-      (λ k s t h _. interpolated-rises output-of (getD kinds k []) s t (sound k .steps) (sound k .outputs) h);
+      (λ k s t h _. interpolated-rises point-delay (getD kinds k []) s t (sound k .steps) (sound k .delays) h);
+  output-step = held-lawful (length kinds) last-step (λ k s. interpolated point-output-step (getD kinds k []) s)
+      (λ k s _. interpolated-at-most point-output-step last-step (getD kinds k []) s (sound k .output-steps) (sound k .output-steps-fit))
+      (λ k s t h _. interpolated-rises point-output-step (getD kinds k []) s t (sound k .steps) (sound k .output-steps) h);
 }
+
+-- the figures of a sound kind follow its rule
+pub sound-interpolates : (ps : List Point) (s : ℕ) → SoundKind ps → Interpolates ps s (figures-at ps s)
+sound-interpolates ps s sound i l lo hi = (
+  interpolated-between point-delay ps i s (sound .steps) (sound .delays) l lo hi,
+  interpolated-between point-output-step ps i s (sound .steps) (sound .output-steps) l lo hi,
+)
+
+-- a kind that is not held has no points, and no step past the last is asked for
+pub absent-interpolates : (kinds : List (List Point)) (k s : ℕ) (figures : ℕ × ℕ) → (length kinds ≤ k) ⊎ (last-step < s) → s ≤ last-step → Interpolates (getD kinds k []) s figures
+absent-interpolates kinds k s figures (inl h) le =
+    let e : getD kinds k [] ≡ [] = getD-past kinds k [] h in
+    subst (λ (ps : List Point). Interpolates ps s figures) (sym e) (λ i l. absurd (not-suc-le-zero l))
+absent-interpolates kinds k s figures (inr h) le = absurd (omega arith)

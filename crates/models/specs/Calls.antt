@@ -13,6 +13,7 @@ use Rattle.models.specs.declared.point.Point.{Point}
 use Rattle.models.specs.declared.points.Points.{Points}
 use Rattle.models.specs.Curves.{kinds-of}
 use Rattle.models.specs.Faults.{row, refusal-of}
+use Rattle.models.specs.Derating.{max-percent}
 use Rattle.models.specs.Meaning.{max-kinds}
 use Rattle.models.specs.PointRows.{point-rows}
 
@@ -22,7 +23,7 @@ kinds-in p = kinds-of (vec-items (p .curves))
 
 -- the model is full
 abbrev pub full-row : ℕ → Row
-full-row count = row (leb max-kinds count) 1 32
+full-row count = row (leb max-kinds count) 1 max-kinds
 
 -- a kind added by its points: the kinds before, the points, the answer, the kinds after
 abbrev pub PointsAdded : List (List Point) → List Point → Result ℕ ModelFault → List (List Point) → Type 0
@@ -41,6 +42,6 @@ FixedAdded kinds delay output r after =
 -- a percentage set: the one before, the one asked for, the answer, the one after
 abbrev pub PercentSet : ℕ → ℕ → Result (Unit {0}) ModelFault → ℕ → Type 0
 PercentSet before percent r after =
-    Outcome refusal-of (row (ltb percent 1) 8 percent ∷ row (ltb 1000 percent) 8 percent ∷ []) r
+    Outcome refusal-of (row (ltb percent 1) 8 percent ∷ row (ltb max-percent percent) 8 percent ∷ []) r
     (λ _. after ≡ percent)
     (after ≡ before)

@@ -2,6 +2,10 @@
 use Prim.Native.Nat.{ℕ, _*_, _/_, min}
 use Rattle.models.specs.Meaning.{Meaning, max-delay}
 
+-- the largest percentage
+abbrev pub max-percent : ℕ
+max-percent = 1000
+
 abbrev pub derated : ℕ → Meaning → Meaning
 derated percent m = record {
   count = m .count;

@@ -4,6 +4,7 @@ use mathlib.Core.Bool.{Bool}
 use Rattle.units.specs.declared.refusals.Refusal.{Refusal}
 use Rattle.units.specs.declared.refusals.Layer.the-variants.{Model}
 use Rattle.units.specs.Refusals.{Row}
+use Rattle.models.specs.Meaning.{max-kinds}
 use Rattle.models.specs.declared.faults.ModelFault.{ModelFault}
 use Rattle.models.specs.declared.faults.ModelFault.the-variants.{KindsFull, PointCount, EndStep, StepOrder, DelayFalls, OutputStepFalls, OutputStepTooLarge, Percent}
 
@@ -15,7 +16,7 @@ abbrev pub row : Bool → ℕ → ℕ → Row
 row b n p = record { holds = b; refusal = model-refusal n p }
 
 abbrev pub refusal-of : ModelFault → Refusal
-refusal-of KindsFull = model-refusal 1 32
+refusal-of KindsFull = model-refusal 1 max-kinds
 refusal-of (PointCount count) = model-refusal 2 count
 refusal-of (EndStep point) = model-refusal 3 point
 refusal-of (StepOrder point) = model-refusal 4 point

@@ -26,10 +26,10 @@ pub record LawfulFigure (count top : ℕ) (figure : ℕ → ℕ → ℕ) : Type 
   pub never-falls : (kind : ℕ) → NeverFalls last-step (figure kind)
 
 pub record Lawful (m : Meaning) : Type 0 where
-  pub few : m .count ≤ max-kinds
+  pub count-fits : m .count ≤ max-kinds
   pub delay : LawfulFigure (m .count) max-delay (m .delay)
   pub output-step : LawfulFigure (m .count) last-step (m .output-step)
 
--- the figure where the kind is held and the step is none past the last, else 0
+-- the figure where the kind is held and the step is not past the last, else 0
 abbrev pub where-held : ℕ → (ℕ → ℕ → ℕ) → ℕ → ℕ → ℕ
 where-held count figure kind step = cond (ltb kind count) (cond (leb step last-step) (figure kind step) 0) 0

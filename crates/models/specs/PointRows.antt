@@ -10,24 +10,32 @@ use Rattle.units.specs.Refusals.{Row}
 use Rattle.units.specs.Steps.{last-step}
 use Rattle.models.specs.declared.point.Point.{Point}
 use Rattle.models.specs.Faults.{row}
-use Rattle.models.specs.Kinds.{step-of, delay-of, output-of, point-at, RisesBy, AtMost}
+use Rattle.models.specs.Kinds.{point-step, point-delay, point-output-step, point-at, RisesBy, AtMost}
+
+-- the fewest and the most points of a kind
+
+abbrev pub min-points : ℕ
+min-points = 2
+
+abbrev pub max-points : ℕ
+max-points = 8
 
 -- tests of a point against the point before it
 
 abbrev pub step-not-above : Point → Point → Bool
-step-not-above before here = leb (step-of here) (step-of before)
+step-not-above before here = leb (point-step here) (point-step before)
 
 abbrev pub delay-falls : Point → Point → Bool
-delay-falls before here = ltb (delay-of here) (delay-of before)
+delay-falls before here = ltb (point-delay here) (point-delay before)
 
-abbrev pub output-falls : Point → Point → Bool
-output-falls before here = ltb (output-of here) (output-of before)
+abbrev pub output-step-falls : Point → Point → Bool
+output-step-falls before here = ltb (point-output-step here) (point-output-step before)
 
--- of the point alone
-abbrev pub output-too-large : Point → Point → Bool
-output-too-large before here = ltb last-step (output-of here)
+-- a test of the point alone
+abbrev pub output-step-too-large : Point → Point → Bool
+output-step-too-large before here = ltb last-step (point-output-step here)
 
--- the point of a number fails a test
+-- The point of a number fails a test. At point 0, which only the last test looks at, there is no point before.
 abbrev pub fails-at : (Point → Point → Bool) → List Point → ℕ → Bool
 fails-at test ps i = test (point-at ps (i - 1)) (point-at ps i)
 
@@ -36,21 +44,21 @@ abbrev pub rows-from : ℕ → (Point → Point → Bool) → ℕ → List Point
 rows-from start test number ps = map (λ i. row (fails-at test ps i) number i) (counting start (length ps - start))
 
 -- the count of points, the first step and the last
-abbrev pub shape-rows : List Point → List Row
-shape-rows ps =
-    row (ltb (length ps) 2) 2 (length ps)
-    ∷ row (ltb 8 (length ps)) 2 (length ps)
-    ∷ row (not (eqb (step-of (point-at ps 0)) 0)) 3 0
-    ∷ row (not (eqb (step-of (point-at ps (length ps - 1))) last-step)) 3 (length ps - 1)
+abbrev pub count-and-end-rows : List Point → List Row
+count-and-end-rows ps =
+    row (ltb (length ps) min-points) 2 (length ps)
+    ∷ row (ltb max-points (length ps)) 2 (length ps)
+    ∷ row (not (eqb (point-step (point-at ps 0)) 0)) 3 0
+    ∷ row (not (eqb (point-step (point-at ps (length ps - 1))) last-step)) 3 (length ps - 1)
     ∷ []
 
 abbrev pub point-rows : List Point → List Row
 point-rows ps =
-    shape-rows ps
+    count-and-end-rows ps
     ++ (rows-from 1 step-not-above 4 ps
     ++ (rows-from 1 delay-falls 5 ps
-    ++ (rows-from 1 output-falls 6 ps
-    ++ rows-from 0 output-too-large 7 ps)))
+    ++ (rows-from 1 output-step-falls 6 ps
+    ++ rows-from 0 output-step-too-large 7 ps)))
 
 -- no point from `start` on fails
 abbrev pub NoneFails : ℕ → (Point → Point → Bool) → List Point → Type 0
@@ -65,11 +73,11 @@ pub record FirstFails (start : ℕ) (test : Point → Point → Bool) (ps : List
 
 -- what points that are not refused fulfil
 pub record WellFormed (ps : List Point) : Type 0 where
-  pub two : 2 ≤ length ps
-  pub eight : length ps ≤ 8
-  pub starts : step-of (point-at ps 0) ≡ 0
-  pub ends : step-of (point-at ps (length ps - 1)) ≡ last-step
-  pub steps : RisesBy 1 step-of ps
-  pub delays : RisesBy 0 delay-of ps
-  pub outputs : RisesBy 0 output-of ps
-  pub outputs-fit : AtMost last-step output-of ps
+  pub enough : min-points ≤ length ps
+  pub few-enough : length ps ≤ max-points
+  pub starts : point-step (point-at ps 0) ≡ 0
+  pub ends : point-step (point-at ps (length ps - 1)) ≡ last-step
+  pub steps : RisesBy 1 point-step ps
+  pub delays : RisesBy 0 point-delay ps
+  pub output-steps : RisesBy 0 point-output-step ps
+  pub output-steps-fit : AtMost last-step point-output-step ps

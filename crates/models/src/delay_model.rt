@@ -13,14 +13,14 @@ pub const MAX_DELAY: u32 = 65535;
 pub trait DelayModel {
     ghost meaning: { Self → Meaning };
 
-    // Ranges, and no figure that falls as the step rises.
+    // Ranges, 0 where nothing is held, and no figure that falls as the step rises.
     law lawful: { (x : Self) → Lawful (meaning x) };
 
     // How many kinds the model holds.
     fn count(&self) -> u8
         ensures { λ r. ⌜ r ≡ meaning (now (self .entry)) .count ⌝ };
 
-    // The delay and the output step of a kind at a step.
+    // The delay and the output step of a kind at a step; 0 and 0 for a kind not held or a step past the last.
     fn figures(&self, kind: u8, step: u8) -> (u32, u8)
         ensures delay { λ r. ⌜ r .0 ≡ meaning (now (self .entry)) .delay kind step ⌝ }
         ensures output_step { λ r. ⌜ r .1 ≡ meaning (now (self .entry)) .output-step kind step ⌝ };
@@ -31,7 +31,7 @@ pub fn ask<M: DelayModel>(model: &M, kind: u8, step: u8) -> (u32, u8)
     ensures delay { λ r. ⌜ r .0 ≡ M·DelayModel .meaning (now (model .entry)) .delay kind step ⌝ }
     ensures output_step { λ r. ⌜ r .1 ≡ M·DelayModel .meaning (now (model .entry)) .output-step kind step ⌝ }
     ensures delay_fits { λ r. ⌜ r .0 ≤ max-delay ⌝ }
-    ensures output_fits { λ r. ⌜ r .1 ≤ last-step ⌝ }
+    ensures output_step_fits { λ r. ⌜ r .1 ≤ last-step ⌝ }
 {
     model.figures(kind, step)
 }

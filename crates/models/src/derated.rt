@@ -1,8 +1,8 @@
-// A model over another, with every delay at a percentage.
+// A model over another, with every delay at a percentage and no larger than a delay may be.
 ghost use mathlib.Core.Path.{_≡_};
 ghost use Prim.Native.Nat.{_≤_};
 ghost use Rattle.models.specs.Calls.{PercentSet};
-ghost use Rattle.models.specs.Derating.{derated};
+ghost use Rattle.models.specs.Derating.{derated, max-percent};
 use crate::delay_model::DelayModel;
 use crate::delay_model::MAX_DELAY;
 use crate::faults::ModelFault;
@@ -14,7 +14,7 @@ pub struct Derated<M> {
     model: M,
     percent: u32,
     ghost low: { 1 ≤ percent },
-    ghost high: { percent ≤ 1000 },
+    ghost high: { percent ≤ max-percent },
 }
 
 impl<M> Derated<M> {

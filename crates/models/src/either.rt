@@ -1,4 +1,4 @@
-// One of two models, so that one list of calls can mix them.
+// One of two models, chosen while a program runs.
 ghost use Rattle.models.specs.declared.either.Either.the-variants.{Left, Right};
 use crate::delay_model::DelayModel;
 

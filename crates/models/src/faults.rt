@@ -1,6 +1,7 @@
 // Why a model refuses.
 ghost use mathlib.Core.Path.{_≡_};
 ghost use Rattle.models.specs.Faults.{refusal-of};
+use crate::delay_model::MAX_KINDS;
 use units::refusals::Layer;
 use units::refusals::Refusal;
 
@@ -20,7 +21,7 @@ pub enum ModelFault {
     OutputStepFalls(usize),
     // the output step is above 31: the point, or 0 for a fixed kind
     OutputStepTooLarge(usize),
-    // the percentage is outside 1 to 1000
+    // the percentage is outside 1 to 1000: the percentage
     Percent(u32),
 }
 
@@ -30,7 +31,7 @@ impl ModelFault {
         ensures { λ r. ⌜ r ≡ refusal-of (now (self .entry)) ⌝ }
     {
         let (number, place) = match *self {
-            ModelFault::KindsFull => (1, 32),
+            ModelFault::KindsFull => (1, MAX_KINDS),
             ModelFault::PointCount(count) => (2, count),
             ModelFault::EndStep(point) => (3, point),
             ModelFault::StepOrder(point) => (4, point),

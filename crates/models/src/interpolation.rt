@@ -3,7 +3,7 @@ ghost use mathlib.Core.Path.{_≡_};
 ghost use Prim.Native.Nat.{_+_, _-_, _*_, _/_, _<_, _≤_};
 ghost use Rattle.units.specs.Steps.{last-step};
 ghost use Rattle.models.specs.Meaning.{max-delay};
-ghost use Rattle.models.specs.Kinds.{delay-of, figures-at, Reaches, Tabulated, DelaysFit};
+ghost use Rattle.models.specs.Kinds.{point-delay, figures-at, Reaches, Tabulated, DelaysFit};
 ghost use Rattle.models.specs.PointRows.{WellFormed};
 use crate::point::Point;
 use units::steps::STEPS;
@@ -35,7 +35,7 @@ fn part_way(low: u32, high: u32, past: u32, span: u32) -> u32
 
 // A point's delay as a wide number.
 fn wide_delay(point: &Point) -> u32
-    ensures value { λ r. ⌜ r ≡ delay-of (now (point .entry)) ⌝ }
+    ensures value { λ r. ⌜ r ≡ point-delay (now (point .entry)) ⌝ }
     ensures bound { λ r. ⌜ r ≤ max-delay ⌝ }
 {
     u32::from(point.delay)

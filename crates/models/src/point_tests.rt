@@ -5,7 +5,7 @@ ghost use Rattle.std.specs.Options.{Cases as BySome};
 ghost use Rattle.units.specs.Refusals.{Outcome};
 ghost use Rattle.models.specs.declared.point.Point.{Point};
 ghost use Rattle.models.specs.Faults.{refusal-of};
-ghost use Rattle.models.specs.PointRows.{step-not-above, delay-falls, output-falls, output-too-large, NoneFails, FirstFails, point-rows, WellFormed};
+ghost use Rattle.models.specs.PointRows.{step-not-above, delay-falls, output-step-falls, output-step-too-large, NoneFails, FirstFails, point-rows, WellFormed};
 use crate::faults::ModelFault;
 use crate::point::Point;
 use units::steps::LAST_STEP;
@@ -46,7 +46,7 @@ pub impl PointTest for DelayFalls as DelayFallsTest {
 pub struct OutputStepFalls;
 
 pub impl PointTest for OutputStepFalls as OutputStepFallsTest {
-    ghost test = { output-falls };
+    ghost test = { output-step-falls };
 
     fn fails(before: &Point, here: &Point) -> bool {
         here.output_step < before.output_step
@@ -56,7 +56,7 @@ pub impl PointTest for OutputStepFalls as OutputStepFallsTest {
 pub struct OutputStepTooLarge;
 
 pub impl PointTest for OutputStepTooLarge as OutputStepTooLargeTest {
-    ghost test = { output-too-large };
+    ghost test = { output-step-too-large };
 
     fn fails(_before: &Point, here: &Point) -> bool {
         here.output_step > LAST_STEP

@@ -18,11 +18,11 @@ to-test a b h = grind (arith, ints)
 total : (a b : ℤ) → (leZ a b ≡ true) ⊎ (leZ b a ≡ true)
 total a b = grind (arith, ints)
 
-chains : (a b c : ℤ) → leZ a b ≡ true → leZ b c ≡ true → leZ a c ≡ true
-chains a b c h i = let x = of-test a b h in let y = of-test b c i in to-test a c (omega (arith, ints))
+transitive : (a b c : ℤ) → leZ a b ≡ true → leZ b c ≡ true → leZ a c ≡ true
+transitive a b c h i = let x = of-test a b h in let y = of-test b c i in to-test a c (omega (arith, ints))
 
-same : (a b : ℤ) → leZ a b ≡ true → leZ b a ≡ true → a ≡ b
-same a b h i = let x = of-test a b h in let y = of-test b a i in omega (arith, ints)
+antisymmetric : (a b : ℤ) → leZ a b ≡ true → leZ b a ≡ true → a ≡ b
+antisymmetric a b h i = let x = of-test a b h in let y = of-test b a i in omega (arith, ints)
 
 sums : (a b c d : ℤ) → leZ a b ≡ true → leZ c d ≡ true → leZ (a +ℤ c) (b +ℤ d) ≡ true
 sums a b c d h i =
@@ -40,8 +40,8 @@ tables f n s t h l e =
 pub late-lawful : Lawful late-order
 late-lawful = record {
   total = λ a b. total b a;
-  chains = λ a b c h i. chains c b a i h;
-  same = λ a b h i. same a b i h;
+  transitive = λ a b c h i. transitive c b a i h;
+  antisymmetric = λ a b h i. antisymmetric a b i h;
   sums = λ a b c d h i. sums b a d c h i;
   tables = λ f n s t h ls lt e. tables f n t s h ls e;
   slack-falls = λ t u r h. let x = of-test u t h in omega (arith, ints);
@@ -51,8 +51,8 @@ late-lawful = record {
 pub early-lawful : Lawful early-order
 early-lawful = record {
   total = total;
-  chains = chains;
-  same = same;
+  transitive = transitive;
+  antisymmetric = antisymmetric;
   sums = sums;
   tables = λ f n s t h ls lt e. tables f n s t h lt e;
   slack-falls = λ t u r h. let x = of-test t u h in omega (arith, ints);

@@ -33,9 +33,9 @@ pub record Lawful (o : Order) : Type 0 where
   -- any two figures compare
   pub total : (a b : ℤ) → AsBad o a b ⊎ AsBad o b a
   -- the order chains
-  pub chains : (a b c : ℤ) → AsBad o a b → AsBad o b c → AsBad o a c
+  pub transitive : (a b c : ℤ) → AsBad o a b → AsBad o b c → AsBad o a c
   -- two figures each as bad as the other are equal
-  pub same : (a b : ℤ) → AsBad o a b → AsBad o b a → a ≡ b
+  pub antisymmetric : (a b : ℤ) → AsBad o a b → AsBad o b a → a ≡ b
   -- sums keep the order
   pub sums : (a b c d : ℤ) → AsBad o a b → AsBad o c d → AsBad o (a +ℤ c) (b +ℤ d)
   -- a table that never falls keeps it

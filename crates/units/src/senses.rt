@@ -1,5 +1,6 @@
 // The late and the early sense: when a figure is at least as bad as another, and slack.
 ghost use mathlib.Core.Path.{_≡_};
+ghost use mathlib.Core.Logic.{_⊎_};
 ghost use lib.IntN.{pos};
 ghost use Rattle.units.specs.Senses.{Order, Lawful, late-order, early-order};
 
@@ -7,6 +8,9 @@ pub trait Sense {
     ghost order: { Order };
 
     law lawful: { Lawful order };
+
+    // There are two senses.
+    law late_or_early: { (order ≡ late-order) ⊎ (order ≡ early-order) };
 
     // Whether this is the late sense.
     fn is_late() -> bool

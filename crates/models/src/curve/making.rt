@@ -7,7 +7,7 @@ ghost use Rattle.units.specs.Steps.{last-step};
 ghost use Rattle.models.specs.Curves.{points-of};
 ghost use Rattle.models.specs.Faults.{refusal-of};
 ghost use Rattle.models.specs.Kinds.{figures-at};
-ghost use Rattle.models.specs.PointRows.{point-rows};
+ghost use Rattle.models.specs.PointRows.{max-points, point-rows};
 use super::Curve;
 use crate::faults::ModelFault;
 use crate::interpolation::tabulate;
@@ -17,7 +17,7 @@ use crate::point_tests::test_points;
 
 // The points, padded by points of zeros.
 fn padded(points: &[Point]) -> [Point; MAX_POINTS]
-    requires { ⌜ length (now points) ≤ 8 ⌝ }
+    requires { ⌜ length (now points) ≤ max-points ⌝ }
     ensures { λ r. ⌜ take (length (now (points .entry))) r ≡ now (points .entry) ⌝ }
 {
     let mut row = [Point {

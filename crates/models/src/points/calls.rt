@@ -6,7 +6,8 @@ ghost use lib.ListN.{length, getD};
 ghost use Rattle.std.specs.Options.{Cases as BySome};
 ghost use Rattle.std.specs.Vec.{made};
 ghost use Rattle.models.specs.Calls.{kinds-in, PointsAdded};
-ghost use Rattle.models.specs.Kinds.{points-meaning};
+ghost use Rattle.models.specs.Kinds.{points-meaning, Interpolates};
+ghost use Rattle.units.specs.Steps.{last-step};
 use super::Points;
 use crate::curve::Curve;
 use crate::delay_model::DelayModel;
@@ -62,7 +63,11 @@ pub impl DelayModel for Points as PointsModel {
         self.curves.len() as u8
     }
 
-    fn figures(&self, kind: u8, step: u8) -> (u32, u8) {
+    fn figures(&self, kind: u8, step: u8) -> (u32, u8)
+        ensures delay { λ r. ⌜ r .0 ≡ points-meaning (kinds-in (now (self .entry))) .delay kind step ⌝ }
+        ensures output_step { λ r. ⌜ r .1 ≡ points-meaning (kinds-in (now (self .entry))) .output-step kind step ⌝ }
+        ensures rule { λ r. ⌜ (step ≤ last-step → Interpolates (getD (kinds-in (now (self .entry))) kind []) step r) ⌝ }
+    {
         let i = kind as usize;
         if step > LAST_STEP || i >= self.curves.len() {
             return (0, 0);

@@ -9,5 +9,5 @@ returns g c =
       delay = e .delay;
       output-step = e .output-step;
       delay-fits = omega (arith, e .delay, law .delay .fits (c .args .kind) (c .args .step));
-      output-fits = omega (arith, e .output-step, law .output-step .fits (c .args .kind) (c .args .step));
+      output-step-fits = omega (arith, e .output-step, law .output-step .fits (c .args .kind) (c .args .step));
     }

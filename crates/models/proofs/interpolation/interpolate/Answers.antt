@@ -3,7 +3,7 @@ use Prim.Native.Nat.{_+_, _-_, _≤_, _<_}
 use native.Mathlib.Omega.{arith}
 use borrow.Author.Needs.{needs}
 use Rattle.units.specs.Steps.{last-step}
-use Rattle.models.specs.Kinds.{step-of, delay-of, output-of, point-at, interpolated}
+use Rattle.models.specs.Kinds.{point-step, point-delay, point-output-step, point-at, interpolated}
 use Rattle.models.proofs.Between.{rises-before, interpolated-first}
 use Rattle.models.proofs.interpolation.interpolate.Needs as need
 
@@ -12,17 +12,17 @@ part-way-output-step-requires c κs =
     let ps = c .args .points .now in
     let r = c .reaching-i .result in
     let e = c .reaching-i .ensures in
-    let outputs = rises-before 0 output-of ps r (c .pre .formed .outputs) (e .past-first) (e .within) in
-    let small : output-of (point-at ps r) ≤ last-step = c .pre .formed .outputs-fit r (e .within) in
-    let steps = rises-before 1 step-of ps r (c .pre .formed .steps) (e .past-first) (e .within) in
+    let output-steps = rises-before 0 point-output-step ps r (c .pre .formed .output-steps) (e .past-first) (e .within) in
+    let small : point-output-step (point-at ps r) ≤ last-step = c .pre .formed .output-steps-fit r (e .within) in
+    let steps = rises-before 1 point-step ps r (c .pre .formed .steps) (e .past-first) (e .within) in
     record { rises = (omega arith, omega arith); past = search needs }
 
 pub returns : need.returns
 returns c =
     let ps = c .args .points .now in
     let e = c .reaching-i .ensures in
-    let delay = interpolated-first delay-of ps (c .reaching-i .result) (c .args .step) (e .past-first) (e .within) (e .first) (e .above) in
-    let output = interpolated-first output-of ps (c .reaching-i .result) (c .args .step) (e .past-first) (e .within) (e .first) (e .above) in
+    let delay = interpolated-first point-delay ps (c .reaching-i .result) (c .args .step) (e .past-first) (e .within) (e .first) (e .above) in
+    let output = interpolated-first point-output-step ps (c .reaching-i .result) (c .args .step) (e .past-first) (e .within) (e .first) (e .above) in
     let past = c .from-past .ensures in
     let span = c .from-span .ensures in
     let low = c .wide-delay .ensures .value in

@@ -19,8 +19,8 @@ ghost-self c =
     let e = c .push-reserved .ensures .items in
     let y : ℕ × ℕ = (c .from .result, c .args .output-step) in
     let delays = pushed-into (λ (p : ℕ × ℕ). p .0 ≤ max-delay) xs zs y (0, 0) e (before .delays) (omega arith) (omega arith) in
-    let outputs = pushed-into (λ (p : ℕ × ℕ). p .1 ≤ last-step) xs zs y (0, 0) e (before .outputs) (omega arith) (omega arith) in
-    (search needs, (search needs, (delays, (outputs, tt))))
+    let output-steps = pushed-into (λ (p : ℕ × ℕ). p .1 ≤ last-step) xs zs y (0, 0) e (before .«output_steps») (omega arith) (omega arith) in
+    (search needs, (search needs, (delays, (output-steps, tt))))
 
 pub returns : need.returns
 returns c =

@@ -1,4 +1,4 @@
-use mathlib.Core.Path.{_≡_, sym, ap, _∙_}
+use mathlib.Core.Path.{_≡_, sym, ap, subst, _∙_}
 use mathlib.Core.List.{List, []}
 use mathlib.Core.Logic.{_⊎_, inl, inr}
 use Prim.Native.Nat.{ℕ, _<_, _≤_}
@@ -11,8 +11,8 @@ use Rattle.units.specs.Steps.{last-step}
 use Rattle.models.specs.declared.point.Point.{Point}
 use Rattle.models.specs.Curves.{points-of, kinds-of}
 use Rattle.models.specs.Calls.{kinds-in}
-use Rattle.models.specs.Kinds.{delay-of, output-of, interpolated, figures-at}
-use Rattle.models.proofs.Meanings.{kinds-length, where-both, where-absent}
+use Rattle.models.specs.Kinds.{point-delay, point-output-step, interpolated, figures-at, Interpolates}
+use Rattle.models.proofs.Meanings.{kinds-length, where-both, where-absent, absent-interpolates, sound-kinds, sound-interpolates}
 use Rattle.models.proofs.points.calls.PointsModel.figures.Needs as need
 
 pub returns-then-step-gt-LAST-STEP : need.returns-then-step-gt-LAST-STEP
@@ -20,8 +20,9 @@ returns-then-step-gt-LAST-STEP c =
     let kinds = kinds-in (c .args .self .now) in
     let absent : (length kinds ≤ c .args .kind) ⊎ (last-step < c .args .step) = search (needs, kinds-length) in
     record {
-      delay = sym (where-absent (length kinds) (λ j t. interpolated delay-of (getD kinds j []) t) (c .args .kind) (c .args .step) absent);
-      output-step = sym (where-absent (length kinds) (λ j t. interpolated output-of (getD kinds j []) t) (c .args .kind) (c .args .step) absent);
+      delay = sym (where-absent (length kinds) (λ j t. interpolated point-delay (getD kinds j []) t) (c .args .kind) (c .args .step) absent);
+      output-step = sym (where-absent (length kinds) (λ j t. interpolated point-output-step (getD kinds j []) t) (c .args .kind) (c .args .step) absent);
+      rule = λ le. absent-interpolates kinds (c .args .kind) (c .args .step) (0, 0) absent le;
     }
 
 pub returns : need.returns
@@ -37,6 +38,7 @@ returns c =
     let same : points-of (c .index .result .now) ≡ getD kinds k [] = ap points-of (c .index .ensures) ∙ sym (getD-map points-of curves k (c .index .result .now) [] lt) in
     let e = c .figures .ensures ∙ ap (λ (ps : List Point). figures-at ps s) same in
     record {
-      delay = ap (λ (x : ℕ × ℕ). x .0) e ∙ sym (where-both (length kinds) (λ j t. interpolated delay-of (getD kinds j []) t) k s lk le);
-      output-step = ap (λ (x : ℕ × ℕ). x .1) e ∙ sym (where-both (length kinds) (λ j t. interpolated output-of (getD kinds j []) t) k s lk le);
+      delay = ap (λ (x : ℕ × ℕ). x .0) e ∙ sym (where-both (length kinds) (λ j t. interpolated point-delay (getD kinds j []) t) k s lk le);
+      output-step = ap (λ (x : ℕ × ℕ). x .1) e ∙ sym (where-both (length kinds) (λ j t. interpolated point-output-step (getD kinds j []) t) k s lk le);
+      rule = λ _. subst (Interpolates (getD kinds k []) s) (sym e) (sound-interpolates (getD kinds k []) s (sound-kinds curves k));
     }
