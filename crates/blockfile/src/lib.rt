@@ -4,5 +4,3 @@ mod fields;
 pub mod loading;
 pub mod reader;
 pub mod records;
-#[cfg(test)]
-mod tests;

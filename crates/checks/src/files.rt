@@ -2,6 +2,10 @@
 use std::alloc::AllocError;
 use std::alloc::Global;
 
+// The example of four nets.
+pub const EXAMPLE: &str =
+    "0103000000003800 0103000000003800 0100 010C5500000050000000 0303003C00141F3C0014 0303004600021F460002 0303000A00011F29000A 02020200 02070100020001 02070200030002";
+
 fn digit(b: u8) -> u8 {
     match b {
         b'0'..=b'9' => b - b'0',

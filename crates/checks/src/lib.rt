@@ -2,8 +2,12 @@
 #[cfg(test)]
 mod blocks;
 #[cfg(test)]
+mod drafts;
+#[cfg(test)]
 mod files;
 #[cfg(test)]
 mod kinds;
+#[cfg(test)]
+mod loading;
 #[cfg(test)]
 mod reports;

@@ -1,4 +1,5 @@
 // Block files, each with the report that it must give.
+use crate::files::EXAMPLE;
 use crate::files::bytes_of;
 use crate::files::repeated;
 use report::reporting::report;
@@ -11,7 +12,7 @@ const TIMED: [(&str, &str); 12] = [
     ("", "late none\nearly none\n"),
     // the example of four nets
     (
-        "0103000000003800 0103000000003800 0100 010C5500000050000000 0303003C00141F3C0014 0303004600021F460002 0303000A00011F29000A 02020200 02070100020001 02070200030002",
+        EXAMPLE,
         "late -5 2 0 2\nearly 2 2 1 2\nnet 0 -5 10\nnet 1 3 2\nnet 2 -5 2\nnet 3 -5 2\n",
     ),
     // a launch and a late limit on one net

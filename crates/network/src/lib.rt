@@ -4,5 +4,3 @@ pub mod fan_out;
 pub mod faults;
 mod ordering;
 pub mod settled;
-#[cfg(test)]
-mod tests;

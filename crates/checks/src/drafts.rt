@@ -1,8 +1,8 @@
 // Small drafts, settled and refused.
-use crate::draft::Draft;
-use crate::faults::DraftFault;
-use crate::faults::DraftFaultDebug;
-use crate::faults::DraftFaultPartialEq;
+use network::draft::Draft;
+use network::faults::DraftFault;
+use network::faults::DraftFaultDebug;
+use network::faults::DraftFaultPartialEq;
 use std::test::*;
 
 // A draft with arcs of kind 0 between so many nets.
