@@ -15,6 +15,10 @@ max-nets = 256
 abbrev pub max-arcs : ℕ
 max-arcs = 1024
 
+-- the most arcs of a path
+abbrev pub max-path : ℕ
+max-path = 255
+
 abbrev pub latest-launch : ℕ
 latest-launch = 1000000
 

@@ -1,8 +1,9 @@
 // The forward pass: signals from the launches along the arcs, pruned net by net.
 ghost use Prim.Native.Nat.{ℕ, _+_, _*_, _<_, _≤_};
 ghost use lib.ListN.{length, getD};
-ghost use Rattle.network.specs.ArcLists.{Rises};
+ghost use Rattle.network.specs.ArcLists.{end-mark, Rises};
 ghost use Rattle.paths.specs.Blocks.{max-nets, max-arcs, Joined};
+ghost use Rattle.units.specs.Steps.{step-count};
 use crate::answers::LAUNCHED;
 use crate::answers::SignalRecord;
 use crate::signals::clear;
@@ -15,12 +16,13 @@ use paths::blocks::Arc;
 use paths::blocks::Launch;
 use paths::blocks::Net;
 use units::senses::Sense;
+use units::steps::LAST_STEP;
 use units::steps::STEPS;
 use units::steps::step_of;
 
 // Offers a launch to the row of its net.
 fn offer_launch<S: Sense>(launch: Option<Launch>, net: usize, signals: &mut [SignalRecord])
-    requires { ⌜ 32 * net + 32 ≤ length (now signals) ⌝ }
+    requires { ⌜ step-count * net + step-count ≤ length (now signals) ⌝ }
 {
     if let Some(launch) = launch {
         let step = step_of(launch.transition);
@@ -42,9 +44,9 @@ fn carry_signal<M: DelayModel, S: Sense>(
     step: u8,
     signals: &mut [SignalRecord],
 ) -> u32
-    requires tail { ⌜ 32 * arc .tail + 32 ≤ length (now signals) ⌝ }
-    requires head { ⌜ 32 * arc .head + 32 ≤ length (now signals) ⌝ }
-    requires step { ⌜ step < 32 ⌝ }
+    requires tail { ⌜ step-count * arc .tail + step-count ≤ length (now signals) ⌝ }
+    requires head { ⌜ step-count * arc .head + step-count ≤ length (now signals) ⌝ }
+    requires step { ⌜ step < step-count ⌝ }
     ensures { λ r. ⌜ r ≤ 1 ⌝ }
 {
     let signal = signals[STEPS * arc.tail as usize + step as usize];
@@ -73,12 +75,12 @@ fn carry_arc<M: DelayModel, S: Sense>(
     number: u16,
     signals: &mut [SignalRecord],
 ) -> u32
-    requires tail { ⌜ 32 * arc .tail + 32 ≤ length (now signals) ⌝ }
-    requires head { ⌜ 32 * arc .head + 32 ≤ length (now signals) ⌝ }
-    ensures { λ r. ⌜ r ≤ 32 ⌝ }
+    requires tail { ⌜ step-count * arc .tail + step-count ≤ length (now signals) ⌝ }
+    requires head { ⌜ step-count * arc .head + step-count ≤ length (now signals) ⌝ }
+    ensures { λ r. ⌜ r ≤ step-count ⌝ }
 {
     let mut carried = 0;
-    for step in 0..32u8 {
+    for step in 0..=LAST_STEP {
         carried += carry_signal::<M, S>(model, arc, number, step, signals);
     }
     carried
@@ -97,8 +99,8 @@ fn carry_fan_out<M: DelayModel, S: Sense>(
     requires few { ⌜ length (now arcs) ≤ max-arcs ⌝ }
     requires joined { ⌜ Joined nets (now arcs) ⌝ }
     requires rises { ⌜ Rises (length (now arcs)) (now «fan_out» .next) ⌝ }
-    requires room { ⌜ 32 * nets ≤ length (now signals) ⌝ }
-    ensures { λ r. ⌜ r ≤ 32 * 65535 ⌝ }
+    requires room { ⌜ step-count * nets ≤ length (now signals) ⌝ }
+    ensures { λ r. ⌜ r ≤ step-count * end-mark ⌝ }
 {
     let mut carried = 0;
     let mut i = fan_out.first[net as usize];
@@ -124,7 +126,7 @@ pub fn propagate<M: DelayModel, S: Sense>(
     requires numbers { ⌜ ((k : ℕ) → k < length (now order) → getD (now order) k 0 < length (now nets)) ⌝ }
     requires ordered { ⌜ length (now order) ≤ max-nets ⌝ }
     requires rises { ⌜ Rises (length (now arcs)) (now «fan_out» .next) ⌝ }
-    requires room { ⌜ 32 * length (now nets) ≤ length (now signals) ⌝ }
+    requires room { ⌜ step-count * length (now nets) ≤ length (now signals) ⌝ }
 {
     clear(signals, STEPS * nets.len());
     let mut carried = 0;

@@ -4,6 +4,7 @@ ghost use Prim.Native.Nat.{ℕ, _+_, _*_, _<_, _≤_};
 ghost use lib.ListN.{length, getD};
 ghost use Rattle.network.specs.ArcLists.{Rises};
 ghost use Rattle.paths.specs.Blocks.{max-nets, max-arcs, largest-limit, limit-of, Joined, LateLimitsFit, EarlyLimitsFit};
+ghost use Rattle.units.specs.Steps.{step-count};
 use crate::answers::NONE;
 use models::delay_model::DelayModel;
 use models::delay_model::ask;
@@ -44,7 +45,7 @@ pub fn limit_of<S: Sense>(net: Net) -> i32
 
 // The required time at the tail of an arc and a step, by the required times at its head.
 fn required_over<M: DelayModel>(model: &M, arc: Arc, step: u8, required: &[i32]) -> i32
-    requires { ⌜ 32 * arc .head + 32 ≤ length (now required) ⌝ }
+    requires { ⌜ step-count * arc .head + step-count ≤ length (now required) ⌝ }
 {
     let (delay, output_step) = ask(model, arc.kind, step);
     let later = required[STEPS * arc.head as usize + output_step as usize];
@@ -62,7 +63,7 @@ fn require_over<M: DelayModel, S: Sense>(
     required: &[i32],
     row: &mut [i32; STEPS],
 )
-    requires { ⌜ 32 * arc .head + 32 ≤ length (now required) ⌝ }
+    requires { ⌜ step-count * arc .head + step-count ≤ length (now required) ⌝ }
 {
     for step in 0..STEPS {
         let more = required_over(model, arc, step as u8, required);
@@ -84,7 +85,7 @@ fn required_row<M: DelayModel, S: Sense>(
     requires few { ⌜ length (now arcs) ≤ max-arcs ⌝ }
     requires joined { ⌜ Joined nets (now arcs) ⌝ }
     requires rises { ⌜ Rises (length (now arcs)) (now «fan_out» .next) ⌝ }
-    requires room { ⌜ 32 * nets ≤ length (now required) ⌝ }
+    requires room { ⌜ step-count * nets ≤ length (now required) ⌝ }
 {
     let mut row = [limit; STEPS];
     let mut i = first;
@@ -97,7 +98,7 @@ fn required_row<M: DelayModel, S: Sense>(
 
 // Fills the part of the area that is one net's.
 fn fill_row(part: &mut [i32], row: &[i32; STEPS])
-    requires { ⌜ length (now part) ≡ 32 ⌝ }
+    requires { ⌜ length (now part) ≡ step-count ⌝ }
     ensures { λ _. ⌜ now (part .exit) ≡ now (row .entry) ⌝ }
 {
     part.copy_from_slice(row);
@@ -119,7 +120,7 @@ pub fn require_all<M: DelayModel, S: Sense>(
     requires earlies { ⌜ EarlyLimitsFit (now nets) ⌝ }
     requires numbers { ⌜ ((k : ℕ) → k < length (now order) → getD (now order) k 0 < length (now nets)) ⌝ }
     requires rises { ⌜ Rises (length (now arcs)) (now «fan_out» .next) ⌝ }
-    requires room { ⌜ 32 * length (now nets) ≤ length (now required) ⌝ }
+    requires room { ⌜ step-count * length (now nets) ≤ length (now required) ⌝ }
 {
     for p in (0..order.len()).rev() {
         let net = order[p] as usize;

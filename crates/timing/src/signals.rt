@@ -1,6 +1,7 @@
 // The rows of the signals' area: record 32 n + s for net n and step s.
 ghost use Prim.Native.Nat.{_+_, _*_, _<_, _≤_};
 ghost use lib.ListN.{length};
+ghost use Rattle.units.specs.Steps.{step-count};
 use crate::answers::NO_SIGNAL;
 use crate::answers::SignalRecord;
 use units::senses::Sense;
@@ -39,8 +40,8 @@ fn covers<S: Sense>(a: SignalRecord, a_step: u32, b: SignalRecord, b_step: u32) 
 
 // Whether another signal of the net covers the one of that step.
 fn is_covered<S: Sense>(signals: &[SignalRecord], net: usize, step: usize) -> bool
-    requires row { ⌜ 32 * net + 32 ≤ length (now signals) ⌝ }
-    requires step { ⌜ step < 32 ⌝ }
+    requires row { ⌜ step-count * net + step-count ≤ length (now signals) ⌝ }
+    requires step { ⌜ step < step-count ⌝ }
 {
     let signal = signals[STEPS * net + step];
     for other in 0..STEPS {
@@ -60,7 +61,7 @@ fn is_covered<S: Sense>(signals: &[SignalRecord], net: usize, step: usize) -> bo
 
 // Takes off the signals of a net that another one covers.
 pub fn prune_row<S: Sense>(signals: &mut [SignalRecord], net: usize)
-    requires { ⌜ 32 * net + 32 ≤ length (now signals) ⌝ }
+    requires { ⌜ step-count * net + step-count ≤ length (now signals) ⌝ }
 {
     for step in 0..STEPS {
         if is_covered::<S>(signals, net, step) {

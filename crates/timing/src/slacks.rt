@@ -2,6 +2,7 @@
 ghost use Prim.Native.Nat.{_+_, _*_, _≤_};
 ghost use lib.ListN.{length};
 ghost use Rattle.paths.specs.Blocks.{max-nets};
+ghost use Rattle.units.specs.Steps.{step-count};
 use crate::answers::NONE;
 use crate::answers::SignalRecord;
 use units::senses::Sense;
@@ -29,8 +30,8 @@ pub fn slack_of<S: Sense>(signal: SignalRecord, required: i32) -> i32 {
 
 // The least slack of the signals that a net keeps.
 fn net_slack<S: Sense>(signals: &[SignalRecord], required: &[i32], net: usize) -> i32
-    requires signals { ⌜ 32 * net + 32 ≤ length (now signals) ⌝ }
-    requires required { ⌜ 32 * net + 32 ≤ length (now required) ⌝ }
+    requires signals { ⌜ step-count * net + step-count ≤ length (now signals) ⌝ }
+    requires required { ⌜ step-count * net + step-count ≤ length (now required) ⌝ }
 {
     let mut least = NONE;
     for step in 0..STEPS {
@@ -48,8 +49,8 @@ pub fn fill_slacks<S: Sense>(
     slacks: &mut [i32],
 )
     requires nets { ⌜ nets ≤ max-nets ⌝ }
-    requires signals { ⌜ 32 * nets ≤ length (now signals) ⌝ }
-    requires required { ⌜ 32 * nets ≤ length (now required) ⌝ }
+    requires signals { ⌜ step-count * nets ≤ length (now signals) ⌝ }
+    requires required { ⌜ step-count * nets ≤ length (now required) ⌝ }
     requires slacks { ⌜ nets ≤ length (now slacks) ⌝ }
 {
     for net in 0..nets {

@@ -4,7 +4,8 @@ ghost use Prim.Native.Nat.{ℕ, _*_, _<_, _≤_};
 ghost use lib.ListN.{length, getD};
 ghost use Rattle.std.specs.Results.{Cases};
 ghost use Rattle.network.specs.ArcLists.{Rises};
-ghost use Rattle.paths.specs.Blocks.{max-nets, max-arcs, Joined, LateLimitsFit, EarlyLimitsFit};
+ghost use Rattle.paths.specs.Blocks.{max-nets, max-arcs, Joined, LateLimitsFit, EarlyLimitsFit, max-path};
+ghost use Rattle.units.specs.Steps.{step-count};
 use crate::answers::Answer;
 use crate::answers::NONE;
 use crate::answers::SignalRecord;
@@ -32,7 +33,7 @@ fn test_areas(
     path: usize,
 ) -> Result<(), TimingFault>
     requires { ⌜ nets ≤ max-nets ⌝ }
-    ensures { λ r. ⌜ Cases r (λ _. (32 * nets ≤ signals) × (32 * nets ≤ required) × (nets ≤ slacks) × (255 ≤ path)) (λ _. Unit {0}) ⌝ }
+    ensures { λ r. ⌜ Cases r (λ _. (step-count * nets ≤ signals) × (step-count * nets ≤ required) × (nets ≤ slacks) × (max-path ≤ path)) (λ _. Unit {0}) ⌝ }
 {
     if signals < STEPS * nets {
         return Err(TimingFault::AreaTooShort(1));

@@ -1,7 +1,8 @@
 // A complete path of the worst slack: its end, and from there back to its start.
 ghost use Prim.Native.Nat.{_+_, _*_, _≤_};
 ghost use lib.ListN.{length};
-ghost use Rattle.paths.specs.Blocks.{max-nets, max-arcs, Joined, LateLimitsFit, EarlyLimitsFit};
+ghost use Rattle.paths.specs.Blocks.{max-nets, max-arcs, Joined, LateLimitsFit, EarlyLimitsFit, max-path};
+ghost use Rattle.units.specs.Steps.{step-count};
 use crate::answers::NO_SIGNAL;
 use crate::answers::SignalRecord;
 use crate::required::limit_of;
@@ -14,7 +15,7 @@ use units::steps::STEPS;
 
 // The first step at which the net's signal has that slack against the limit.
 fn end_step<S: Sense>(signals: &[SignalRecord], net: usize, limit: i32, worst: i32) -> Option<u8>
-    requires { ⌜ 32 * net + 32 ≤ length (now signals) ⌝ }
+    requires { ⌜ step-count * net + step-count ≤ length (now signals) ⌝ }
 {
     for step in 0..STEPS {
         if slack_of::<S>(signals[STEPS * net + step], limit) == worst {
@@ -29,7 +30,7 @@ pub fn end_of<S: Sense>(nets: &[Net], signals: &[SignalRecord], worst: i32) -> (
     requires nets { ⌜ length (now nets) ≤ max-nets ⌝ }
     requires lates { ⌜ LateLimitsFit (now nets) ⌝ }
     requires earlies { ⌜ EarlyLimitsFit (now nets) ⌝ }
-    requires room { ⌜ 32 * length (now nets) ≤ length (now signals) ⌝ }
+    requires room { ⌜ step-count * length (now nets) ≤ length (now signals) ⌝ }
 {
     for net in 0..nets.len() {
         if let Some(step) = end_step::<S>(signals, net, limit_of::<S>(nets[net]), worst) {
@@ -56,8 +57,8 @@ fn trace_back(
     path: &mut [u16],
 ) -> (u16, u16)
     requires arcs { ⌜ length (now arcs) ≤ max-arcs ⌝ }
-    requires room { ⌜ 255 ≤ length (now path) ⌝ }
-    ensures { λ r. ⌜ r .1 ≤ 255 ⌝ }
+    requires room { ⌜ max-path ≤ length (now path) ⌝ }
+    ensures { λ r. ⌜ r .1 ≤ max-path ⌝ }
 {
     let mut net = end;
     let mut signal = record_at(signals, end, step);
@@ -82,7 +83,7 @@ pub fn trace(
     path: &mut [u16],
 ) -> (u16, u16)
     requires arcs { ⌜ length (now arcs) ≤ max-arcs ⌝ }
-    requires room { ⌜ 255 ≤ length (now path) ⌝ }
+    requires room { ⌜ max-path ≤ length (now path) ⌝ }
 {
     let (start, count) = trace_back(arcs, signals, end, step, path);
     path[0..count as usize].reverse();

@@ -2,6 +2,10 @@
 use mathlib.Core.Path.{_≡_}
 use Prim.Native.Nat.{ℕ, _+_, _*_, _≤_, _<_}
 
+-- how many steps there are
+abbrev pub step-count : ℕ
+step-count = 32
+
 -- the slowest step
 abbrev pub last-step : ℕ
 last-step = 31

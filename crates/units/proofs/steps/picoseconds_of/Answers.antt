@@ -1,8 +1,8 @@
--- The table is the rule at each of the 32 steps, which antt computes.
+-- The table is the rule at each of the steps, which antt computes.
 use native.Mathlib.Omega.{arith}
 use Rattle.std.proofs.shelf.Counted.{getD-map-counting}
-use Rattle.units.specs.Steps.{picoseconds}
+use Rattle.units.specs.Steps.{step-count, picoseconds}
 use Rattle.units.proofs.steps.picoseconds_of.Needs as need
 
 pub returns : need.returns
-returns c = getD-map-counting picoseconds 0 32 (c .args .step) (c .args .step) 0 (omega arith) (omega arith)
+returns c = getD-map-counting picoseconds 0 step-count (c .args .step) (c .args .step) 0 (omega arith) (omega arith)
