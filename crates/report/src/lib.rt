@@ -1,4 +1,4 @@
 // The report of a block file: from bytes to text.
-pub mod areas;
-pub mod lines;
+mod areas;
+mod lines;
 pub mod reporting;
