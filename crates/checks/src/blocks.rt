@@ -1,4 +1,6 @@
 // Drafts, and timings into areas.
+use crate::files::EXAMPLE;
+use crate::files::bytes_of;
 use block::faults::BlockFault;
 use block::faults::BlockFaultDebug;
 use block::faults::BlockFaultPartialEq;
@@ -6,10 +8,15 @@ use block::faults::TimeFault;
 use block::faults::TimeFaultDebug;
 use block::faults::TimeFaultPartialEq;
 use block::settled_block::SettledBlock;
+use blockfile::faults::LoadFaultDebug;
+use blockfile::faults::LoadFaultPartialEq;
+use blockfile::loading::load;
 use models::faults::ModelFaultDebug;
 use models::faults::ModelFaultPartialEq;
 use models::fixed::Fixed;
 use models::fixed::calls::FixedModel;
+use models::points::Points;
+use models::points::calls::PointsModel;
 use network::draft::Draft;
 use network::draft::Side;
 use network::faults::DraftFault;
@@ -154,6 +161,21 @@ fn a_self_arc_is_a_cycle(rt: LibcRuntime) -> Result<(), Fail> {
     check_eq(answer, Err(TimeFault::Block(BlockFault::Cycle(1))))
 }
 
+// The kept signals of a net, as (step, time), of which there are at most two here.
+fn kept(signals: &[SignalRecord], net: usize) -> (usize, (usize, u32), (usize, u32)) {
+    let mut found = [(0, 0); 2];
+    let mut count = 0;
+    for (i, record) in signals.iter().enumerate() {
+        if record.kept && i / 32 == net {
+            if count < 2 {
+                found[count] = (i % 32, record.time);
+            }
+            count = count.wrapping_add(1);
+        }
+    }
+    (count, found[0], found[1])
+}
+
 // A path through every net of a block of full length.
 #[test]
 fn longest_path(rt: LibcRuntime) -> Result<(), Fail> {
@@ -191,4 +213,61 @@ fn longest_path(rt: LibcRuntime) -> Result<(), Fail> {
         }),
     )?;
     check_eq((path[0], path[254], slacks[128]), (0, 254, 2_288_575))
+}
+
+// The example of four nets: the signals that each net keeps, exactly, and the carried count, in both senses.
+#[test]
+fn example_keeps(rt: LibcRuntime) -> Result<(), Fail> {
+    let heap = rt.alloc();
+    let mut draft = Draft::new(heap)?;
+    let mut model = Points::new(heap)?;
+    check_eq(
+        load(&bytes_of(heap, EXAMPLE)?, &mut draft, &mut model),
+        Ok(()),
+    )?;
+    let block = SettledBlock::settle(draft, 0);
+    let mut signals = vec![in heap; NO_SIGNAL; 128]?;
+    let mut required = vec![in heap; 0; 128]?;
+    let mut slacks = [0; 4];
+    let mut path = [0; 255];
+    let late = block.time(
+        &model,
+        Late,
+        &mut signals,
+        &mut required,
+        &mut slacks,
+        &mut path,
+    );
+    check_eq(
+        late,
+        Ok(Answer {
+            worst_slack: -5,
+            start: 0,
+            arcs: 2,
+            carried: 4,
+        }),
+    )?;
+    check_eq(kept(&signals, 0), (1, (4, 0), (0, 0)))?;
+    check_eq(kept(&signals, 1), (1, (4, 0), (0, 0)))?;
+    check_eq(kept(&signals, 2), (2, (2, 70), (20, 60)))?;
+    check_eq(kept(&signals, 3), (1, (6, 90), (0, 0)))?;
+    let early = block.time(
+        &model,
+        Early,
+        &mut signals,
+        &mut required,
+        &mut slacks,
+        &mut path,
+    );
+    check_eq(
+        early,
+        Ok(Answer {
+            worst_slack: 2,
+            start: 1,
+            arcs: 2,
+            carried: 4,
+        }),
+    )?;
+    check_eq(kept(&signals, 2), (2, (2, 70), (20, 60)))?;
+    check_eq(kept(&signals, 3), (1, (1, 82), (0, 0)))
 }
