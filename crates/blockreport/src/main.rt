@@ -1,4 +1,6 @@
 // Prints the report of the block file on standard input.
+#![tactic(auto)]
+
 use report::reporting::report;
 use std::io::Read;
 

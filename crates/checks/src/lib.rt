@@ -1,4 +1,6 @@
 // Examples: what the models, a timing and the report must give.
+#![tactic(auto)]
+
 #[cfg(test)]
 mod blocks;
 #[cfg(test)]

@@ -1,4 +1,6 @@
 // Delay models: the interface, kinds given by points, kinds of fixed figures, derating, and a choice of two models.
+#![tactic(auto)]
+
 mod curve;
 pub mod delay_model;
 pub mod derated;

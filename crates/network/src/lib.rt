@@ -1,4 +1,6 @@
 // A block as a draft that is being built, and the settled network that timing runs on.
+#![tactic(auto)]
+
 pub mod draft;
 pub mod fan_out;
 pub mod faults;

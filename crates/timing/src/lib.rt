@@ -1,4 +1,6 @@
 // One timing over lent nets, arcs, order and areas: signals forward, required times backward, slacks, the worst path.
+#![tactic(auto)]
+
 pub mod answers;
 pub mod faults;
 mod forward;

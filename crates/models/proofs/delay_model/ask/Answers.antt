@@ -9,5 +9,5 @@ returns g c =
       delay = e.delay;
       output_step = e.output_step;
       delay_fits = omega (arith, e.delay, law.delay.fits c.args.kind c.args.step);
-      output-step-fits = omega (arith, e.output_step, law.output_step.fits c.args.kind c.args.step);
+      output_step_fits = omega (arith, e.output_step, law.output_step.fits c.args.kind c.args.step);
     }

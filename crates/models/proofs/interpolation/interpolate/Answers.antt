@@ -22,8 +22,8 @@ returns c =
     let output = interpolated_first point_output_step ps c.reaching-i.result c.args.step e.past_first e.within e.first e.above in
     let past = c.from-past.ensures in
     let span = c.from-span.ensures in
-    let low = c.wide-delay.ensures.value in
-    let high = c.wide-delay-2.ensures.value in
-    let part = c.part-way-delay.ensures.value in
+    let low = c.wide_delay.ensures.value in
+    let high = c.wide_delay-2.ensures.value in
+    let part = c.part_way-delay.ensures.value in
     let out = c.part-way-output-step.ensures.value in
     record { figures = cc; bound = search rules }

@@ -8,7 +8,7 @@ loop-i-preserved g c = λ j l u.
     let i = c.loop-i.i in
     let test = g.T.PointTest.test in
     let answer = c.if-fails.ensures in
-    let before = c.saturating-sub.ensures in
+    let before = c.saturating_sub.ensures in
     let here : fails_at test ps i ≡ false = cc in
     let le : j ≤ i = omega arith in
     elim (eq-or-lt_of_le le) [

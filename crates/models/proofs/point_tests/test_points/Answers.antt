@@ -30,9 +30,9 @@ pub returns : goal.returns
 returns c =
     let ps = c.args.points.now in
     let shape = count_and_ends_pass ps (search rules) (search rules) (search rules) (search rules) in
-    let steps = c.in-default.ensures in
-    let delays = c.in-default-first-failing.ensures in
-    let output_steps = c.in-default-first-failing-2.ensures in
+    let steps = c.in_default.ensures in
+    let delays = c.in_default-first_failing.ensures in
+    let output_steps = c.in_default-first_failing-2.ensures in
     let sizes = c.in-default-first-failing-3.ensures in (
       none_refused ps shape steps delays output_steps sizes,
       record {

@@ -21,4 +21,4 @@ returns c =
     let n : c.len-kind.result ≡ length (vec_items c.args.self.now.kinds) = search rules in
     let few : length (vec_items c.args.self.now.kinds) < max_kinds = omega arith in
     let e : c.from.result ≡ c.args.delay = search rules in
-    (grind (arith, nat_tests), (n, c.push-reserved.ensures.items ∙ ap (λ (d : ℕ). vec_items c.args.self.now.kinds ++ (d, c.args.output_step) ∷ []) e))
+    (grind (arith, nat_tests), (n, c.push_reserved.ensures.items ∙ ap (λ (d : ℕ). vec_items c.args.self.now.kinds ++ (d, c.args.output_step) ∷ []) e))

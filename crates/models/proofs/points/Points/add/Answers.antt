@@ -19,7 +19,7 @@ returns-in-Ok c =
     let count : c.len-kind.result ≡ length (kinds_of curves) = search (rules, kinds_length) in
     let room : length (kinds_of curves) < max_kinds = search (rules, kinds_length) in
     let e = c.in-Ok.ensures in
-    (past_full (length (kinds_of curves)) (point_rows c.args.points.now) room ∙ e.0, (count, ap kinds_of c.push-reserved.ensures.items ∙ kinds_push curves c.in-Ok.curve ∙ ap (λ (ps : List Point). kinds_of curves ++ ps ∷ []) e.1))
+    (past_full (length (kinds_of curves)) (point_rows c.args.points.now) room ∙ e.0, (count, ap kinds_of c.push_reserved.ensures.items ∙ kinds_push curves c.in-Ok.curve ∙ ap (λ (ps : List Point). kinds_of curves ++ ps ∷ []) e.1))
 
 pub returns-in-Err : goal.returns-in-Err
 returns-in-Err c =
