@@ -4,8 +4,8 @@ use Rattle.models.specs.Kinds.{point_step, point_delay, point_output_step, point
 use Rattle.models.specs.Between.{rises_before, interpolated_first}
 use Rattle.models.proofs.interpolation.interpolate.Goals as goal
 
-pub part-way-output-step-requires : goal.part-way-output-step-requires
-part-way-output-step-requires c =
+pub part_way-output_step-requires : goal.part_way-output_step-requires
+part_way-output_step-requires c =
     let ps = c.args.points.now in
     let r = c.reaching-i.result in
     let e = c.reaching-i.ensures in
@@ -25,5 +25,5 @@ returns c =
     let low = c.wide_delay.ensures.value in
     let high = c.wide_delay-2.ensures.value in
     let part = c.part_way-delay.ensures.value in
-    let out = c.part-way-output-step.ensures.value in
+    let out = c.part_way-output_step.ensures.value in
     record { figures = cc; bound = search rules }

@@ -8,23 +8,23 @@ returns-in-Some c =
     let shape = count_and_ends_pass ps (search rules) (search rules) (search rules) (search rules) in
     (refused_step ps _ shape c.in-Some.ensures, tt)
 
-pub returns-in-Some-first-failing : goal.returns-in-Some-first-failing
-returns-in-Some-first-failing c =
+pub returns-in-Some-first_failing : goal.returns-in-Some-first_failing
+returns-in-Some-first_failing c =
     let ps = c.args.points.now in
     let shape = count_and_ends_pass ps (search rules) (search rules) (search rules) (search rules) in
-    (refused_delay ps _ shape c.in-default.ensures c.in-Some-first-failing.ensures, tt)
+    (refused_delay ps _ shape c.in_default.ensures c.in-Some-first_failing.ensures, tt)
 
-pub returns-in-Some-first-failing-2 : goal.returns-in-Some-first-failing-2
-returns-in-Some-first-failing-2 c =
+pub returns-in-Some-first_failing-2 : goal.returns-in-Some-first_failing-2
+returns-in-Some-first_failing-2 c =
     let ps = c.args.points.now in
     let shape = count_and_ends_pass ps (search rules) (search rules) (search rules) (search rules) in
-    (refused_output_step_fall ps _ shape c.in-default.ensures c.in-default-first-failing.ensures c.in-Some-first-failing-2.ensures, tt)
+    (refused_output_step_fall ps _ shape c.in_default.ensures c.in_default-first_failing.ensures c.in-Some-first_failing-2.ensures, tt)
 
-pub returns-in-Some-first-failing-3 : goal.returns-in-Some-first-failing-3
-returns-in-Some-first-failing-3 c =
+pub returns-in-Some-first_failing-3 : goal.returns-in-Some-first_failing-3
+returns-in-Some-first_failing-3 c =
     let ps = c.args.points.now in
     let shape = count_and_ends_pass ps (search rules) (search rules) (search rules) (search rules) in
-    (refused_output_step_size ps _ shape c.in-default.ensures c.in-default-first-failing.ensures c.in-default-first-failing-2.ensures c.in-Some-first-failing-3.ensures, tt)
+    (refused_output_step_size ps _ shape c.in_default.ensures c.in_default-first_failing.ensures c.in_default-first_failing-2.ensures c.in-Some-first_failing-3.ensures, tt)
 
 pub returns : goal.returns
 returns c =
@@ -33,7 +33,7 @@ returns c =
     let steps = c.in_default.ensures in
     let delays = c.in_default-first_failing.ensures in
     let output_steps = c.in_default-first_failing-2.ensures in
-    let sizes = c.in-default-first-failing-3.ensures in (
+    let sizes = c.in_default-first_failing-3.ensures in (
       none_refused ps shape steps delays output_steps sizes,
       record {
         enough = search rules;

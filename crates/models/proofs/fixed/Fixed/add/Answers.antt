@@ -5,16 +5,16 @@ use Rattle.models.specs.Meaning.{max_kinds, max_delay}
 use Rattle.models.specs.Meanings.{pushed_into}
 use Rattle.models.proofs.fixed.Fixed.add.Goals as goal
 
-pub invariant-of-self : goal.invariant-of-self
-invariant-of-self c =
+pub invariant_of-self : goal.invariant_of-self
+invariant_of-self c =
     let before = c.args.self.now in
     let xs = vec_items before.kinds in
-    let zs = vec_items c.push-reserved.new.self in
-    let e = c.push-reserved.ensures.items in
+    let zs = vec_items c.push_reserved.new.self in
+    let e = c.push_reserved.ensures.items in
     let y : ℕ × ℕ = (c.from.result, c.args.output_step) in
     let delays = pushed_into (λ (p : ℕ × ℕ). p.0 ≤ max_delay) xs zs y (0, 0) e before.delays (omega arith) (omega arith) in
     let output_steps = pushed_into (λ (p : ℕ × ℕ). p.1 ≤ last_step) xs zs y (0, 0) e before.output_steps (omega arith) (omega arith) in
-    (search rules, (search rules, (delays, (output_steps, tt))))
+    record { few = search rules; room = search rules; delays = delays; output_steps = output_steps }
 
 pub returns : goal.returns
 returns c =

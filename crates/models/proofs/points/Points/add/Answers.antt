@@ -8,8 +8,8 @@ use Rattle.models.specs.Meanings.{kinds_length, kinds_push}
 use Rattle.models.proofs.FullModel.{refused_full, past_full}
 use Rattle.models.proofs.points.Points.add.Goals as goal
 
-pub returns-then-kind-ge-MAX-KINDS : goal.returns-then-kind-ge-MAX-KINDS
-returns-then-kind-ge-MAX-KINDS c =
+pub returns-then-kind-ge-MAX_KINDS : goal.returns-then-kind-ge-MAX_KINDS
+returns-then-kind-ge-MAX_KINDS c =
     let full : max_kinds ≤ length (kinds_in c.args.self.now) = search (rules, kinds_length) in
     (refused_full (length (kinds_in c.args.self.now)) (point_rows c.args.points.now) full, refl)
 

@@ -8,8 +8,8 @@ use Rattle.models.specs.Kinds.{point_delay, point_output_step, interpolated, fig
 use Rattle.models.specs.Meanings.{kinds_length, where_both, where_absent, absent_interpolates, sound_kinds, sound_interpolates}
 use Rattle.models.proofs.points.calls.PointsDelayModel.figures.Goals as goal
 
-pub returns-then-step-gt-LAST-STEP : goal.returns-then-step-gt-LAST-STEP
-returns-then-step-gt-LAST-STEP c =
+pub returns-then-step-gt-LAST_STEP : goal.returns-then-step-gt-LAST_STEP
+returns-then-step-gt-LAST_STEP c =
     let kinds = kinds_in c.args.self.now in
     let absent : (length kinds ≤ c.args.kind) ⊎ (last_step < c.args.step) = search (rules, kinds_length) in
     record {
