@@ -1,11 +1,10 @@
 // The settled network, which timing runs on.
 ghost use Rattle.std.specs.Prelude.{◌≡◌, ℕ, ◌<◌, ◌≤◌, length, take, Some, None, slice_index};
-ghost use Rattle.paths.specs.Blocks.{max_nets, max_arcs, Joined, KindsFit, TimesFit, TransitionsFit, LateLimitsFit, EarlyLimitsFit};
+ghost use Rattle.paths.specs.Blocks.{max_nets, max_arcs, block, Joined, KindsFit, TimesFit, TransitionsFit, LateLimitsFit, EarlyLimitsFit};
 ghost use Rattle.paths.specs.Cycles.{NoneCanBePlaced, CycleAt, LeftIsReachable};
 ghost use Rattle.paths.specs.Orders.{Placed, Unplaced, Numbers, Once, TailsFirst, Whole, TopologicalOrder};
 ghost use Rattle.network.specs.ArcLists.{Begins, Rises, Ends, FirstsOut, NextsOut};
 ghost use Rattle.network.specs.Orders.{NetNumbers};
-ghost use Rattle.network.specs.Settling.{network_block};
 ghost use Rattle.network.specs.Sorting.{placed_nets, Filled};
 
 use crate::fan_out::FanOut;
@@ -78,9 +77,9 @@ impl Network {
     pub fn placed(&self) -> &[u16]
         ensures value { result.now ≡ placed_nets self.now.order }
         ensures once { Once result.now }
-        ensures tails_first { TailsFirst (network_block self.now).arcs result.now }
-        ensures left { LeftIsReachable (network_block self.now) result.now }
-        ensures topological { self.now.cycle ≡ None → TopologicalOrder (length (network_block self.now).nets) (network_block self.now).arcs result.now }
+        ensures tails_first { TailsFirst self.now.arcs.items result.now }
+        ensures left { LeftIsReachable (block self.now.nets.items self.now.arcs.items) result.now }
+        ensures topological { self.now.cycle ≡ None → TopologicalOrder (length self.now.nets.items) self.now.arcs.items result.now }
     {
         &self.order.nets[0..self.order.placed]
     }
@@ -90,8 +89,8 @@ impl Network {
         ensures begins { Begins (length self.now.arcs.items) result.now.first }
         ensures rises { Rises (length self.now.arcs.items) result.now.next }
         ensures ends { Ends (length self.now.arcs.items) result.now.next }
-        ensures firsts { FirstsOut (network_block self.now).arcs result.now.first }
-        ensures nexts { NextsOut (network_block self.now).arcs result.now.next }
+        ensures firsts { FirstsOut self.now.arcs.items result.now.first }
+        ensures nexts { NextsOut self.now.arcs.items result.now.next }
     {
         &self.fan_out
     }
@@ -99,7 +98,7 @@ impl Network {
     // The lowest net on a cycle or reachable from one; none where there is no cycle.
     pub fn cycle(&self) -> Option<u16>
         ensures value { result ≡ self.now.cycle }
-        ensures at { CycleAt (network_block self.now) result }
+        ensures at { CycleAt (block self.now.nets.items self.now.arcs.items) result }
     {
         self.cycle
     }
