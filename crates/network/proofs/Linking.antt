@@ -1,11 +1,11 @@
 -- Linking the arcs into lists, from the last arc to the first. Assumes nothing.
-use Rattle.std.proofs.Common.{◌≡◌, ℕ, zero, suc, ◌+◌, ◌-◌, ◌<◌, ◌≤◌, Bool, cond, eqb, List, [], ◌∷◌, length, get_or, drop, set, replicate, sym, refl, ap, ◌∙◌, subst, inl, inr, arith, eq-eqb, ne_eqb}
+use Rattle.std.proofs.Common.{◌≡◌, ℕ, zero, suc, ◌+◌, ◌<◌, ◌≤◌, Bool, cond, List, length, get_or, drop, set, replicate, sym, refl, ap, ◌∙◌, subst, inl, inr, arith, eq-eqb, ne_eqb}
 use native.Mathlib.Decide.{ℕ_discrete}
 use Rattle.std.proofs.lemmas.List.{length-set, length-replicate, get_or-replicate, at_drop_more, at_drop_all}
 use Rattle.std.proofs.lemmas.Bool.{cases_lt}
 use Rattle.paths.specs.declared.blocks.Arc.{Arc}
 use Rattle.paths.specs.Blocks.{max_nets, max_arcs, tail_of, no_arc}
-use Rattle.network.specs.ArcLists.{end_mark, first_out, NextsOut}
+use Rattle.network.specs.ArcLists.{end_mark, first_out, Begins, Ends, FirstsOut, NextsOut}
 use Rattle.network.proofs.Writes.{after_write}
 
 -- the first out of a net from number i on: the arc i itself, or the first after it
@@ -63,6 +63,20 @@ rises arcs next few nexts i lt =
       | inl within ↦ let (ge, _) = lowest.out (omega arith) in omega arith
       | inr past ↦ omega arith
     ]
+
+-- each list begins with an arc, or is empty
+pub begins : (arcs : List Arc) (first : List ℕ) → length arcs ≤ max_arcs → FirstsOut arcs first → Begins (length arcs) first
+begins arcs first few firsts n lt past =
+    let lowest = lowest_out arcs few n 0 in
+    let e = firsts n lt in
+    e ∙ lowest.ends (omega arith)
+
+-- and after each arc comes an arc, or the end mark
+pub ends : (arcs : List Arc) (next : List ℕ) → length arcs ≤ max_arcs → NextsOut arcs next → Ends (length arcs) next
+ends arcs next few nexts i lt past =
+    let lowest = lowest_out arcs few (tail_of arcs i) (i + 1) in
+    let e = nexts i lt in
+    e ∙ lowest.ends (omega arith)
 
 -- the arcs from number i on stand in the lists
 pub record Linked (arcs : List Arc) (i : ℕ) (first next : List ℕ) : Type 0 where

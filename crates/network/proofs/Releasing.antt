@@ -1,10 +1,10 @@
 -- The arcs out of one net counted off, one after the other along its list. Assumes nothing.
-use Rattle.std.proofs.Common.{◌≡◌, ℕ, suc, ◌+◌, ◌-◌, ◌<◌, ◌≤◌, ◌≢◌, List, [], ◌∷◌, ◌++◌, length, get_or, drop, set, sym, refl, ap, ◌∙◌, subst, arith}
+use Rattle.std.proofs.Common.{◌≡◌, ℕ, ◌+◌, ◌-◌, ◌<◌, ◌≤◌, ◌≢◌, List, [], ◌∷◌, ◌++◌, length, get_or, set, sym, ap, ◌∙◌, subst, arith}
 use Rattle.std.proofs.lemmas.List.{length_push, get_or_append_left}
 use Rattle.paths.specs.declared.blocks.Arc.{Arc}
 use Rattle.paths.specs.Blocks.{max_nets, max_arcs, tail_of, head_of, Joined}
 use Rattle.paths.specs.Orders.{place_of}
-use Rattle.network.specs.ArcLists.{first_out, FirstsOut, NextsOut}
+use Rattle.network.specs.ArcLists.{FirstsOut, NextsOut}
 use Rattle.network.specs.Sorting.{Sorting}
 use Rattle.network.proofs.Linking.{LowestOut, lowest_out}
 use Rattle.network.proofs.SortingSteps.{skip, some_waits, has_room, still_waits, head_placed}

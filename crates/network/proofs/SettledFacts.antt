@@ -1,8 +1,8 @@
 -- What the invariant of a settled network says of its cycles and its order. Assumes nothing.
-use Rattle.std.proofs.Common.{◌≡◌, ℕ, ◌<◌, ◌≤◌, List, length, Some, None, vec_items, Option, refl, subst, arith}
+use Rattle.std.proofs.Common.{◌≡◌, ℕ, ◌<◌, List, length, Some, None, vec_items, Option, refl, subst}
 use Rattle.paths.specs.declared.blocks.Arc.{Arc}
 use Rattle.paths.specs.Blocks.{Block, head_of, Joined}
-use Rattle.paths.specs.Cycles.{CycleAt, TakenOff, LeftIsReachable}
+use Rattle.paths.specs.Cycles.{CycleAt, TakenOff}
 use Rattle.paths.specs.Orders.{Placed, Unplaced, Whole, LowestUnplaced, TopologicalOrder}
 use Rattle.paths.proofs.TakingOff.{left_is_reachable, cycle_at}
 use Rattle.network.specs.declared.settled.Network.{Network}

@@ -1,15 +1,15 @@
 -- The steps of sorting: a source placed, arcs skipped, an arc counted off at its head, and what holds at the end. Assumes nothing.
-use Rattle.std.proofs.Common.{◌≡◌, ℕ, suc, ◌+◌, ◌<◌, ◌≤◌, Bool, true, false, cond, ◌&&◌, eqb, ltb, leb, ◌≢◌, List, [], ◌∷◌, ◌++◌, length, get_or, set, Some, None, Option, sym, refl, ap, ◌∙◌, subst, inl, inr, arith, eq-eqb, ne_eqb, eqb-true}
+use Rattle.std.proofs.Common.{◌≡◌, ℕ, suc, ◌+◌, ◌<◌, ◌≤◌, Bool, true, false, cond, ◌&&◌, eqb, ltb, leb, ◌≢◌, List, [], ◌∷◌, ◌++◌, length, get_or, set, Some, None, Option, sym, refl, ap, ◌∙◌, subst, inl, inr, arith, eq-eqb, ne_eqb}
 use native.Mathlib.Decide.{ℕ_discrete}
 use Rattle.std.proofs.lemmas.List.{length-set, length_push, get_or-set_same, get_or-set_other}
 use Rattle.std.proofs.lemmas.Bool.{cases_lt, and_from}
 use Rattle.std.proofs.lemmas.Bool.Decides.{nat_tests}
 use Rattle.paths.specs.declared.blocks.Arc.{Arc}
 use Rattle.paths.specs.Blocks.{tail_of, head_of, Joined}
-use Rattle.paths.specs.Orders.{place_of, Placed, Unplaced, Numbers, Once, TailsFirst, Whole, LowestUnplaced}
+use Rattle.paths.specs.Orders.{place_of, Placed, Unplaced, Numbers, TailsFirst, LowestUnplaced}
 use Rattle.paths.specs.Cycles.{TakenOff}
-use Rattle.paths.proofs.Places.{place_within, at_place, place_kept, place_new, place_other, once_push, numbers_push, none_past}
-use Rattle.network.specs.Sorting.{one_if, count_below, arcs_into, Counted, waits, waiting, zeros, SourcesPlaced, Sorting, LowestPending}
+use Rattle.paths.proofs.Places.{at_place, place_kept, place_new, place_other, once_push, numbers_push, none_past}
+use Rattle.network.specs.Sorting.{one_if, arcs_into, Counted, waits, waiting, zeros, SourcesPlaced, Sorting, LowestPending}
 use Rattle.network.proofs.Counting.{count_within, count_same, count_less, count_none, count_all, none_counted}
 use Rattle.network.proofs.Linking.{LowestOut}
 use Rattle.network.proofs.Writes.{after_write}

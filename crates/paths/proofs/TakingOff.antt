@@ -1,13 +1,12 @@
 -- What is left when nets are taken off is what lies on or behind a cycle: going back from net to net meets a net twice. Assumes nothing.
-use Rattle.std.proofs.Common.{◌≡◌, ℕ, zero, suc, ◌+◌, ◌<◌, ◌≤◌, Bool, true, false, cond, eqb, ◌⊎◌, ◌↔◌, List, [], ◌∷◌, length, Some, None, Option, sym, refl, ap, ◌∙◌, subst, inl, inr, arith, eq-eqb, ne_eqb, eqb-true}
+use Rattle.std.proofs.Common.{◌≡◌, ℕ, zero, suc, ◌+◌, ◌<◌, ◌≤◌, Bool, true, false, cond, eqb, ◌⊎◌, List, [], ◌∷◌, length, Some, None, Option, sym, refl, ap, ◌∙◌, subst, inl, inr, arith, eq-eqb, ne_eqb, eqb-true}
 use native.Mathlib.Decide.{ℕ_discrete}
 use Rattle.std.proofs.lemmas.Bool.{cases_Bool, cases_lt}
 use Rattle.paths.specs.declared.blocks.Arc.{Arc}
 use Rattle.paths.specs.Blocks.{Block, tail_of, head_of, Joined}
 use Rattle.paths.specs.Runs.{IsArc, Run}
 use Rattle.paths.specs.Orders.{place_of, Placed, Unplaced, LowestUnplaced}
-use Rattle.paths.specs.Cycles.{OnCycle, ReachableFromCycle, CycleAt, TakenOff, LeftIsReachable}
-use Rattle.paths.proofs.Places.{place_within}
+use Rattle.paths.specs.Cycles.{ReachableFromCycle, CycleAt, TakenOff, LeftIsReachable}
 
 abbrev one_if_not : Bool → ℕ
 one_if_not true = 0

@@ -1,14 +1,14 @@
 -- Signals, required times and slacks worked out arc by arc, and that they are those over all runs. Assumes nothing.
-use Rattle.std.specs.Prelude.{◌≡◌, ℕ, ◌+◌, ◌*◌, ◌≤◌, ◌⊎◌, ◌↔◌, List, length, ℤ, pos, ◌-ℤ◌, Some, None, Option}
+use Rattle.std.specs.Prelude.{◌≡◌, ℕ, ◌≤◌, ◌⊎◌, ◌↔◌, List, length, ℤ, pos, ◌-ℤ◌, Some, None, Option}
 use Rattle.units.specs.Senses.{Order, AsBad}
 use Rattle.units.specs.Senses as senses
 use Rattle.units.specs.Steps.{step_count, last_step}
 use Rattle.models.specs.Meaning.{Meaning, max_delay}
 use Rattle.models.specs.Meaning as models
 use Rattle.paths.specs.Blocks.{Block, tail_of, head_of, kind_of}
-use Rattle.paths.specs.Runs.{IsArc, Run}
+use Rattle.paths.specs.Runs.{IsArc}
 use Rattle.paths.specs.Orders.{TopologicalOrder}
-use Rattle.paths.specs.Signals.{Signal, signal, Launches, carried, along, run_delay, Covers, KeptSignal}
+use Rattle.paths.specs.Signals.{Signal, signal, Launches, carried, along, Covers, KeptSignal}
 use Rattle.paths.specs.Slacks.{limit_at, First, Least, RequiredTime, NetSlack, WorstSlack}
 use Rattle.paths.specs.CarriedCounts.{sum_below, CarriedCount}
 

@@ -1,6 +1,6 @@
-use Rattle.std.proofs.Common.{◌≡◌, ◌+◌, ◌-◌, ◌<◌, ◌≤◌, sym, ◌∙◌, arith, rules}
+use Rattle.std.proofs.Common.{◌≤◌, arith, rules}
 use Rattle.units.specs.Steps.{last_step}
-use Rattle.models.specs.Kinds.{point_step, point_delay, point_output_step, point_at, interpolated}
+use Rattle.models.specs.Kinds.{point_step, point_delay, point_output_step, point_at}
 use Rattle.models.specs.Between.{rises_before, interpolated_first}
 use Rattle.models.proofs.interpolation.interpolate.Goals as goal
 

@@ -1,11 +1,11 @@
-use Rattle.std.proofs.Common.{◌≤◌, eqb, length, get_or, arith, rules}
+use Rattle.std.proofs.Common.{◌≤◌, eqb, get_or, arith, rules}
 use Rattle.paths.specs.Blocks.{head_of}
 use Rattle.network.proofs.Counting.{count_within}
 use Rattle.network.proofs.SortingSteps.{counted_more}
 use Rattle.network.proofs.ordering.count_arcs_in.Goals as goal
 
-pub overflow-add-pending : goal.overflow-add-pending
-overflow-add-pending c =
+pub overflow_add-pending : goal.overflow_add-pending
+overflow_add-pending c =
     let arcs = c.args.arcs.now in
     let k = c.loop-arc.arc-index in
     let counted = c.loop-arc.invariant (head_of arcs k) (omega (arith, (c.requires.joined k c.loop-arc-test.true).1)) in

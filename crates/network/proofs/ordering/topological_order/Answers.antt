@@ -1,9 +1,9 @@
-use Rattle.std.proofs.Common.{◌≡◌, ℕ, ◌≤◌, length, take, replicate, sym, ap, ◌∙◌, subst, arith}
+use Rattle.std.proofs.Common.{◌≡◌, ℕ, ◌≤◌, length, take, replicate, sym, ap, ◌∙◌, subst}
 use Rattle.std.proofs.lemmas.List.{take-replicate, length-replicate}
 use Rattle.paths.specs.Blocks.{max_nets, Joined}
 use Rattle.paths.specs.Cycles.{TakenOff}
 use Rattle.paths.specs.Orders.{LowestUnplaced}
-use Rattle.network.specs.Orders.{AllZero}
+use Rattle.network.specs.Orders.{NetNumbers, AllZero}
 use Rattle.network.specs.Sorting.{placed_nets}
 use Rattle.network.proofs.Writes.{all_zero}
 use Rattle.network.proofs.ordering.topological_order.Goals as goal
@@ -32,6 +32,7 @@ returns c =
     let order = placed_nets c.sort.result.0 in
     record {
       filled = sorted.filled;
+      numbers = subst (λ n. NetNumbers n c.sort.result.0.nets) long sorted.numbers;
       off = subst (λ n. TakenOff n c.args.arcs.now order) long sorted.off;
       lowest = subst (λ n. LowestUnplaced n order c.sort.result.1) long sorted.lowest;
       long = λ e. sorted.long e ∙ long;

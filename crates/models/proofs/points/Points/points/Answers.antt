@@ -1,6 +1,6 @@
-use Rattle.std.proofs.Common.{◌≡◌, ◌<◌, ◌≤◌, [], length, get_or, vec_items, sym, ap, ◌∙◌, arith, rules}
+use Rattle.std.proofs.Common.{◌<◌, ◌≤◌, [], length, vec_items, sym, ap, ◌∙◌, arith, rules}
 use Rattle.std.proofs.lemmas.List.{get_or-map}
-use Rattle.models.specs.Curves.{points_of, kinds_of}
+use Rattle.models.specs.Curves.{points_of}
 use Rattle.models.specs.Meanings.{kinds_length}
 use Rattle.models.proofs.points.Points.points.Goals as goal
 

@@ -1,4 +1,4 @@
-use Rattle.std.proofs.Common.{◌≡◌, length, vec_items, refl, ◌∙◌, subst}
+use Rattle.std.proofs.Common.{refl, ◌∙◌, subst}
 use Rattle.paths.specs.Cycles.{CycleAt}
 use Rattle.network.specs.Calls.{draft_block}
 use Rattle.network.proofs.SettledFacts.{found_cycle}
@@ -7,11 +7,11 @@ use Rattle.network.proofs.draft.Draft.check.Goals as goal
 pub returns-in-Some : goal.returns-in-Some
 returns-in-Some c =
     let d = c.args.self.now in
-    let sorted = c.topological-order-cycle.ensures in
+    let sorted = c.topological_order-cycle.ensures in
     (c.in-Some.net, refl, subst (CycleAt (draft_block d)) c.in-Some.is (found_cycle (draft_block d) _ _ _ _ (c.len.ensures ∙ d.nets.ok.0) c.deref-2.ensures.value d.joined sorted.off sorted.lowest))
 
 pub returns-in-None : goal.returns-in-None
 returns-in-None c =
     let d = c.args.self.now in
-    let sorted = c.topological-order-cycle.ensures in
+    let sorted = c.topological_order-cycle.ensures in
     subst (CycleAt (draft_block d)) c.in-None.is (found_cycle (draft_block d) _ _ _ _ (c.len.ensures ∙ d.nets.ok.0) c.deref-2.ensures.value d.joined sorted.off sorted.lowest)
