@@ -12,7 +12,7 @@ use Rattle.paths.specs.declared.blocks.Launch.{Launch}
 use Rattle.paths.specs.Blocks.{Block, Joined, TimesFit, net_of, tail_of, head_of, kind_of, time_of, latest_launch}
 use Rattle.paths.specs.Runs.{IsArc}
 use Rattle.paths.specs.Orders.{place_of, TopologicalOrder}
-use Rattle.paths.specs.Signals.{Signal, signal, Launches, carried, Covers}
+use Rattle.paths.specs.Signals.{Signal, Launches, carried, Covers}
 use Rattle.paths.proofs.Covering.{as_bad_refl, covers_refl, covers_transitive}
 use Rattle.paths.proofs.Places.{at_place}
 use Rattle.timing.specs.declared.answers.SignalRecord.{SignalRecord}

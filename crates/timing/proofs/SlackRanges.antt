@@ -1,6 +1,5 @@
 -- The slack of a signal against a required time fits 32 bits, and is what its record says. Assumes nothing.
 use Rattle.std.proofs.Common.{◌≡◌, ℕ, ◌+◌, ◌≤◌, Bool, true, false, cond, not, ◌⊎◌, ℤ, pos, neg_ℤ, ◌≤ℤ◌, Some, None, Option, sym, refl, ap, ◌∙◌, subst, inl, inr, arith, w32, SFits, to_z, of_z}
-use lib.Signed.{le_z}
 use Rattle.std.proofs.lemmas.Int.{ints, to_z-of_z}
 use Rattle.units.specs.Senses.{Order, late_order, early_order}
 use Rattle.paths.specs.Ranges.{latest_time, longest_delay, RequiredFits}

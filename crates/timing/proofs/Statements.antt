@@ -1,5 +1,5 @@
 -- What a timing says of complete paths, in the answer and net by net. Assumes nothing.
-use Rattle.std.proofs.Common.{◌≡◌, ℕ, ◌<◌, ◌↔◌, List, length, ℤ, ◌≤ℤ◌, Some, None, Option, refl, subst, arith}
+use Rattle.std.proofs.Common.{◌≡◌, ℕ, ◌↔◌, ℤ, ◌≤ℤ◌, Some, None, Option, refl, subst, arith}
 use Rattle.units.specs.Senses.{Order}
 use Rattle.models.specs.Meaning.{Meaning}
 use Rattle.paths.specs.Blocks.{Block}

@@ -1,5 +1,5 @@
 -- A whole timing from its passes: without a complete path, and with one. Assumes nothing.
-use Rattle.std.proofs.Common.{◌≡◌, ℕ, ◌*◌, ◌≤◌, List, length, take, ℤ, Some, None, sym, refl, ap, ◌∙◌, subst, arith, w32, SFits, to_z, of_z}
+use Rattle.std.proofs.Common.{◌≡◌, ℕ, ◌*◌, ◌≤◌, List, length, take, ℤ, Some, None, sym, refl, ap, subst, arith, w32, SFits, to_z, of_z}
 use Rattle.std.proofs.lemmas.Int.{to_z-of_z}
 use Rattle.units.specs.Senses.{Order}
 use Rattle.units.specs.Steps.{step_count}
@@ -9,7 +9,6 @@ use Rattle.paths.specs.declared.blocks.Arc.{Arc}
 use Rattle.paths.specs.Blocks.{block, max_nets, max_path}
 use Rattle.paths.specs.Slacks.{WorstSlack}
 use Rattle.paths.specs.ArcByArc.{Timeable}
-use Rattle.timing.specs.declared.answers.Answer.{Answer}
 use Rattle.timing.specs.declared.answers.SignalRecord.{SignalRecord}
 use Rattle.timing.specs.Areas.{figure, ArcsPast}
 use Rattle.timing.specs.Passes.{Forwarded, Backward, SlacksFilled, LeastEntry}

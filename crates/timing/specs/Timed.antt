@@ -1,5 +1,5 @@
 -- What a timing answers and leaves in its areas. Assumes nothing.
-use Rattle.std.specs.Prelude.{◌≡◌, ℕ, ◌*◌, ◌<◌, ◌≤◌, true, false, ◌↔◌, List, length, take, ℤ, ◌≤ℤ◌, Some, None, Option, Result}
+use Rattle.std.specs.Prelude.{◌≡◌, ℕ, ◌*◌, ◌<◌, ◌≤◌, true, false, ◌↔◌, List, length, take, ℤ, ◌≤ℤ◌, Some, None, Result}
 use Rattle.units.specs.declared.refusals.Refusal.{Refusal}
 use Rattle.units.specs.Refusals.{Outcome}
 use Rattle.units.specs.Senses.{Order}
