@@ -20,7 +20,7 @@ fn drawn(rt: &HostRuntime, nets: u16, arcs: &[(u16, u16)]) -> Result<Draft, Fail
 fn chain(rt: HostRuntime) -> Result<(), Fail> {
     let network = drawn(&rt, 3, &[(0, 1), (1, 2)])?.settle();
     assert_eq!(rt; network.cycle(), None);
-    assert_eq!(rt; network.order(), &[0, 1, 2]);
+    assert_eq!(rt; network.order(), [0, 1, 2].as_slice());
     Ok(())
 }
 
@@ -28,7 +28,7 @@ fn chain(rt: HostRuntime) -> Result<(), Fail> {
 fn chain_drawn_backwards(rt: HostRuntime) -> Result<(), Fail> {
     let network = drawn(&rt, 4, &[(1, 0), (2, 1), (3, 2)])?.settle();
     assert_eq!(rt; network.cycle(), None);
-    assert_eq!(rt; network.order(), &[3, 2, 1, 0]);
+    assert_eq!(rt; network.order(), [3, 2, 1, 0].as_slice());
     Ok(())
 }
 
@@ -36,7 +36,7 @@ fn chain_drawn_backwards(rt: HostRuntime) -> Result<(), Fail> {
 fn diamond(rt: HostRuntime) -> Result<(), Fail> {
     let network = drawn(&rt, 4, &[(3, 1), (3, 2), (1, 0), (2, 0)])?.settle();
     assert_eq!(rt; network.cycle(), None);
-    assert_eq!(rt; network.order(), &[3, 1, 2, 0]);
+    assert_eq!(rt; network.order(), [3, 1, 2, 0].as_slice());
     Ok(())
 }
 
@@ -53,7 +53,7 @@ fn lowest_net_hangs_behind_a_cycle(rt: HostRuntime) -> Result<(), Fail> {
     assert_eq!(rt; draft.check(), Err(DraftFault::Cycle(1)));
     let network = draft.settle();
     assert_eq!(rt; network.cycle(), Some(1));
-    assert_eq!(rt; network.placed(), &[0]);
+    assert_eq!(rt; network.placed(), [0].as_slice());
     Ok(())
 }
 
@@ -152,6 +152,6 @@ fn second_figures_replace_the_first(rt: HostRuntime) -> Result<(), Fail> {
         late_limit: Some(85),
         early_limit: Some(80),
     };
-    assert_eq!(rt; draft.nets(), &[bare, limited]);
+    assert_eq!(rt; draft.nets(), [bare, limited].as_slice());
     Ok(())
 }

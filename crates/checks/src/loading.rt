@@ -32,7 +32,10 @@ fn example_loads(rt: HostRuntime) -> Result<(), Fail> {
         late_limit: Some(85),
         early_limit: Some(80),
     };
-    assert_eq!(rt; draft.nets(), &[launched, launched, bare, limited]);
+    assert_eq!(rt;
+        draft.nets(),
+        [launched, launched, bare, limited].as_slice()
+    );
     let to_2 = Arc {
         tail: 0,
         head: 2,
@@ -48,7 +51,7 @@ fn example_loads(rt: HostRuntime) -> Result<(), Fail> {
         head: 3,
         kind: 2,
     };
-    assert_eq!(rt; draft.arcs(), &[to_2, also_to_2, to_3]);
+    assert_eq!(rt; draft.arcs(), [to_2, also_to_2, to_3].as_slice());
     assert!(rt; model.points(2).is_some() && model.points(3).is_none());
     Ok(())
 }
