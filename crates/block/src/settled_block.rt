@@ -1,6 +1,8 @@
 // A settled block, and its timing.
-ghost use Rattle.std.specs.Prelude.{◌≡◌, ◌≤◌, vec_len};
+ghost use Rattle.std.specs.Prelude.{◌≡◌, ◌≤◌, None, vec_len};
 ghost use Rattle.paths.specs.Blocks.{max_nets};
+ghost use Rattle.paths.specs.Cycles.{CycleAt};
+ghost use Rattle.paths.specs.Facts.{TimingFacts};
 ghost use Rattle.network.specs.Calls.{draft_block};
 ghost use Rattle.network.specs.Settling.{network_block, Settled};
 ghost use Rattle.timing.specs.Timed.{areas};
@@ -58,7 +60,8 @@ impl SettledBlock {
         slacks: &mut [i32],
         path: &mut [u16],
     ) -> Result<Answer, TimeFault>
-        ensures { CycleFirst refusal_of (network_block self.now.network) result ((areas signals.new required.new slacks.new path.new) ≡ (areas signals.old required.old slacks.old path.old)) }
+        ensures cyclic { CycleFirst refusal_of (network_block self.now.network) result ((areas signals.new required.new slacks.new path.new) ≡ (areas signals.old required.old slacks.old path.old)) }
+        ensures facts { CycleAt (network_block self.now.network) None → TimingFacts (network_block self.now.network) (M.DelayModel.meaning model.now) S.Sense.order }
     {
         if let Some(net) = self.network.cycle() {
             return Err(TimeFault::Block(BlockFault::Cycle(net)));

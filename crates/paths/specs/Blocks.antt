@@ -1,5 +1,5 @@
 -- The nets and arcs of a block by their numbers, and the ranges of their figures. Assumes nothing.
-use Rattle.std.specs.Prelude.{ℕ, ◌<◌, ◌≤◌, List, length, get_or, Some, None, Option, slice_index_or}
+use Rattle.std.specs.Prelude.{ℕ, ◌<◌, ◌≤◌, List, length, slice_index_or, Some, None, Option}
 use Rattle.units.specs.Steps.{longest_transition}
 use Rattle.paths.specs.declared.blocks.Launch.{Launch}
 use Rattle.paths.specs.declared.blocks.Net.{Net}
@@ -41,13 +41,13 @@ block nets arcs = record { nets = nets; arcs = arcs }
 
 -- the nets that the arc of a number leads from and to
 abbrev pub tail_of : List Arc → ℕ → ℕ
-tail_of arcs i = (get_or arcs i no_arc).tail
+tail_of arcs i = (slice_index_or arcs i no_arc).tail
 
 abbrev pub head_of : List Arc → ℕ → ℕ
-head_of arcs i = (get_or arcs i no_arc).head
+head_of arcs i = (slice_index_or arcs i no_arc).head
 
 abbrev pub kind_of : List Arc → ℕ → ℕ
-kind_of arcs i = (get_or arcs i no_arc).kind
+kind_of arcs i = (slice_index_or arcs i no_arc).kind
 
 -- the net of a number
 abbrev pub net_of : Block → ℕ → Net
@@ -72,16 +72,16 @@ Joined nets arcs = (i : ℕ) → i < length arcs → (tail_of arcs i < nets) × 
 
 -- each figure is in its range
 abbrev pub KindsFit : List Arc → Type 0
-KindsFit arcs = (i : ℕ) → (get_or arcs i no_arc).kind ≤ last_kind
+KindsFit arcs = (i : ℕ) → (slice_index_or arcs i no_arc).kind ≤ last_kind
 
 abbrev pub TimesFit : List Net → Type 0
-TimesFit nets = (n : ℕ) → time_of (get_or nets n no_net).launch ≤ latest_launch
+TimesFit nets = (n : ℕ) → time_of (slice_index_or nets n no_net).launch ≤ latest_launch
 
 abbrev pub TransitionsFit : List Net → Type 0
-TransitionsFit nets = (n : ℕ) → transition_of (get_or nets n no_net).launch ≤ longest_transition
+TransitionsFit nets = (n : ℕ) → transition_of (slice_index_or nets n no_net).launch ≤ longest_transition
 
 abbrev pub LateLimitsFit : List Net → Type 0
-LateLimitsFit nets = (n : ℕ) → limit_of (get_or nets n no_net).late_limit ≤ largest_limit
+LateLimitsFit nets = (n : ℕ) → limit_of (slice_index_or nets n no_net).late_limit ≤ largest_limit
 
 abbrev pub EarlyLimitsFit : List Net → Type 0
-EarlyLimitsFit nets = (n : ℕ) → limit_of (get_or nets n no_net).early_limit ≤ largest_limit
+EarlyLimitsFit nets = (n : ℕ) → limit_of (slice_index_or nets n no_net).early_limit ≤ largest_limit
