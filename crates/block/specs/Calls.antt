@@ -15,6 +15,8 @@ abbrev pub CycleFirst : {X F : Type 0} → (F → Refusal) → Block → Result 
 CycleFirst name b (Ok _) same = CycleAt b None
 CycleFirst name b (Err f) same = (CycleAt b None × ((name f).number ≢ 13)) ⊎ ((n : ℕ) × (name f ≡ block_refusal 13 n) × CycleAt b (Some n) × same)
 
+-- The next three are for the contract of a timing's figures; none cites them yet.
+
 -- Where there is no cycle, a timing is refused by its own rows with the areas as they were, or it is timed.
 abbrev pub TimedAfterCycles : Block → Meaning → Order → Areas → Result Answer TimeFault → Areas → Type 0
 TimedAfterCycles b m o was r is = CycleAt b None → TimeOutcome refusal_of b m o was r is

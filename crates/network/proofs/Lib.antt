@@ -1,5 +1,6 @@
 pub mod Counting
 pub mod Growth
+pub mod LinkedArcs
 pub mod Linking
 pub mod Releasing
 pub mod SettledFacts

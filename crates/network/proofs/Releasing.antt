@@ -6,7 +6,7 @@ use Rattle.paths.specs.Blocks.{max_nets, max_arcs, tail_of, head_of, Joined}
 use Rattle.paths.specs.Orders.{place_of}
 use Rattle.network.specs.ArcLists.{FirstsOut, NextsOut}
 use Rattle.network.specs.Sorting.{Sorting}
-use Rattle.network.proofs.Linking.{LowestOut, lowest_out}
+use Rattle.network.proofs.LinkedArcs.{LowestOut, lowest_out}
 use Rattle.network.proofs.SortingSteps.{skip, some_waits, has_room, still_waits, head_placed}
 
 -- those below i out of the net at its place are

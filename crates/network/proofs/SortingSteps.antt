@@ -11,7 +11,7 @@ use Rattle.paths.specs.Cycles.{TakenOff}
 use Rattle.paths.proofs.Places.{at_place, place_kept, place_new, place_other, once_push, numbers_push, none_past}
 use Rattle.network.specs.Sorting.{one_if, arcs_into, Counted, waits, waiting, zeros, SourcesPlaced, Sorting, LowestPending}
 use Rattle.network.proofs.Counting.{count_within, count_same, count_less, count_none, count_all, none_counted}
-use Rattle.network.proofs.Linking.{LowestOut}
+use Rattle.network.proofs.LinkedArcs.{LowestOut}
 use Rattle.network.proofs.Writes.{after_write}
 
 -- when an arc waits

@@ -4,7 +4,7 @@ use Rattle.paths.specs.Blocks.{max_nets, head_of, Joined}
 use Rattle.network.specs.declared.order.Order.{Order}
 use Rattle.network.specs.Orders.{NetNumbers}
 use Rattle.network.specs.Sorting.{placed_nets, Filled}
-use Rattle.network.proofs.Linking.{rises}
+use Rattle.network.proofs.LinkedArcs.{rises}
 use Rattle.network.proofs.Releasing.{Releasing, release_begins, head_waits, room_for_head, release_on, release_head}
 use Rattle.network.proofs.SortingSteps.{released}
 use Rattle.network.proofs.ordering.release_heads.Goals.{then-left-eq0, else-left-eq0}
