@@ -12,7 +12,7 @@ use Rattle.paths.specs.Slacks.{First, limit_at}
 use Rattle.paths.specs.ArcByArc.{RequiredTable, RequiredByArcs}
 use Rattle.paths.proofs.Options.{none_is_not_some, some_injective}
 use Rattle.network.specs.ArcLists.{FirstsOut, NextsOut}
-use Rattle.network.proofs.Linking.{LowestOut, lowest_out}
+use Rattle.network.proofs.LinkedArcs.{LowestOut, lowest_out}
 use Rattle.timing.specs.Areas.{figure}
 use Rattle.timing.specs.RequiredRows.{as_figure, limit_figure, AsHard, HarderOf, less_delay, required_over, RowOver, RequiredRow}
 use Rattle.timing.proofs.HarderTimes.{OrFigure, first_same, alone, harder_first}

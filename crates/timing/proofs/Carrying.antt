@@ -10,7 +10,7 @@ use Rattle.paths.specs.declared.blocks.Arc.{Arc}
 use Rattle.paths.specs.Blocks.{max_arcs, tail_of, head_of, no_arc}
 use Rattle.paths.specs.ArcByArc.{one_if_some}
 use Rattle.network.specs.ArcLists.{end_mark, first_out}
-use Rattle.network.proofs.Linking.{LowestOut, lowest_out}
+use Rattle.network.proofs.LinkedArcs.{LowestOut, lowest_out}
 use Rattle.timing.specs.declared.answers.SignalRecord.{SignalRecord}
 use Rattle.timing.specs.Areas.{held_by}
 use Rattle.timing.specs.Offers.{Records, AfterOffers, kept_record, StepOffer, ArcOffers, FanOutOffers, kept_below, carried_out}
