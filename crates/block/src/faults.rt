@@ -1,5 +1,6 @@
 // Why a call on a settled block is refused.
 ghost use Rattle.std.specs.Prelude.{◌≡◌};
+ghost use Rattle.block.specs.declared.faults.TimeFault.{TimeFault};
 ghost use Rattle.block.specs.Faults.{block_refusal_of, refusal_of};
 
 use timing::faults::TimingFault;
@@ -11,12 +12,12 @@ pub enum BlockFault {
     Cycle(u16),
 }
 
-impl BlockFault {
-    // What the refusal names.
-    pub fn refusal(&self) -> Refusal
-        ensures { result ≡ block_refusal_of self.now }
-    {
-        match *self {
+// What the refusal names.
+impl From<BlockFault> for Refusal {
+    ghost from_gives = { λ fault refusal. refusal ≡ block_refusal_of fault };
+
+    fn from(fault: BlockFault) -> Refusal {
+        match fault {
             BlockFault::Cycle(net) => Refusal {
                 layer: Layer::Block,
                 number: 13,
@@ -33,14 +34,30 @@ pub enum TimeFault {
     Timing(TimingFault),
 }
 
-impl TimeFault {
-    // What the refusal names.
-    pub fn refusal(&self) -> Refusal
-        ensures { result ≡ refusal_of self.now }
-    {
-        match self {
-            TimeFault::Block(fault) => fault.refusal(),
-            TimeFault::Timing(fault) => fault.refusal(),
+impl From<BlockFault> for TimeFault {
+    ghost from_gives = { λ fault whole. whole ≡ TimeFault.Block fault };
+
+    fn from(fault: BlockFault) -> TimeFault {
+        TimeFault::Block(fault)
+    }
+}
+
+impl From<TimingFault> for TimeFault {
+    ghost from_gives = { λ fault whole. whole ≡ TimeFault.Timing fault };
+
+    fn from(fault: TimingFault) -> TimeFault {
+        TimeFault::Timing(fault)
+    }
+}
+
+// What the refusal names.
+impl From<TimeFault> for Refusal {
+    ghost from_gives = { λ fault refusal. refusal ≡ refusal_of fault };
+
+    fn from(fault: TimeFault) -> Refusal {
+        match fault {
+            TimeFault::Block(fault) => Refusal::from(fault),
+            TimeFault::Timing(fault) => Refusal::from(fault),
         }
     }
 }

@@ -64,17 +64,14 @@ impl SettledBlock {
         ensures facts { CycleAt (network_block self.now.network) None → TimingFacts (network_block self.now.network) (M.DelayModel.meaning model.now) S.Sense.order }
     {
         if let Some(net) = self.network.cycle() {
-            return Err(TimeFault::Block(BlockFault::Cycle(net)));
+            return Err(BlockFault::Cycle(net).into());
         }
         let nets = self.network.nets();
         let arcs = self.network.arcs();
         let order = self.network.order();
         let fan_out = self.network.fan_out();
-        match timer::time::<M, S>(
+        Ok(timer::time::<M, S>(
             model, nets, arcs, order, fan_out, signals, required, slacks, path,
-        ) {
-            Ok(answer) => Ok(answer),
-            Err(fault) => Err(TimeFault::Timing(fault)),
-        }
+        )?)
     }
 }

@@ -1,5 +1,6 @@
 // Why a block file is refused.
 ghost use Rattle.std.specs.Prelude.{◌≡◌};
+ghost use Rattle.blockfile.specs.declared.faults.LoadCause.{LoadCause};
 ghost use Rattle.blockfile.specs.Faults.{reader_refusal, cause_refusal, refusal_of};
 
 use models::faults::ModelFault;
@@ -32,12 +33,36 @@ pub struct LoadFault {
     pub cause: LoadCause,
 }
 
-impl ReaderFault {
-    // What the refusal names.
-    pub fn refusal(&self) -> Refusal
-        ensures { result ≡ reader_refusal self.now }
-    {
-        let (number, place) = match *self {
+impl From<ReaderFault> for LoadCause {
+    ghost from_gives = { λ fault cause. cause ≡ LoadCause.Reader fault };
+
+    fn from(fault: ReaderFault) -> LoadCause {
+        LoadCause::Reader(fault)
+    }
+}
+
+impl From<DraftFault> for LoadCause {
+    ghost from_gives = { λ fault cause. cause ≡ LoadCause.Draft fault };
+
+    fn from(fault: DraftFault) -> LoadCause {
+        LoadCause::Draft(fault)
+    }
+}
+
+impl From<ModelFault> for LoadCause {
+    ghost from_gives = { λ fault cause. cause ≡ LoadCause.Model fault };
+
+    fn from(fault: ModelFault) -> LoadCause {
+        LoadCause::Model(fault)
+    }
+}
+
+// What each refusal names.
+impl From<ReaderFault> for Refusal {
+    ghost from_gives = { λ fault refusal. refusal ≡ reader_refusal fault };
+
+    fn from(fault: ReaderFault) -> Refusal {
+        let (number, place) = match fault {
             ReaderFault::Truncated(len) => (24, len),
             ReaderFault::UnknownTag(tag) => (25, tag as usize),
             ReaderFault::UnknownBit(map) => (26, map as usize),
@@ -51,24 +76,22 @@ impl ReaderFault {
     }
 }
 
-impl LoadCause {
-    // What the refusal names.
-    pub fn refusal(&self) -> Refusal
-        ensures { result ≡ cause_refusal self.now }
-    {
-        match self {
-            LoadCause::Reader(fault) => fault.refusal(),
-            LoadCause::Draft(fault) => fault.refusal(),
-            LoadCause::Model(fault) => fault.refusal(),
+impl From<LoadCause> for Refusal {
+    ghost from_gives = { λ cause refusal. refusal ≡ cause_refusal cause };
+
+    fn from(cause: LoadCause) -> Refusal {
+        match cause {
+            LoadCause::Reader(fault) => Refusal::from(fault),
+            LoadCause::Draft(fault) => Refusal::from(fault),
+            LoadCause::Model(fault) => Refusal::from(fault),
         }
     }
 }
 
-impl LoadFault {
-    // What the refusal names.
-    pub fn refusal(&self) -> Refusal
-        ensures { result ≡ refusal_of self.now }
-    {
-        self.cause.refusal()
+impl From<LoadFault> for Refusal {
+    ghost from_gives = { λ fault refusal. refusal ≡ refusal_of fault };
+
+    fn from(fault: LoadFault) -> Refusal {
+        Refusal::from(fault.cause)
     }
 }

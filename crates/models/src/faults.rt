@@ -25,12 +25,12 @@ pub enum ModelFault {
     Percent(u32),
 }
 
-impl ModelFault {
-    // What the refusal names.
-    pub fn refusal(&self) -> Refusal
-        ensures { result ≡ refusal_of self.now }
-    {
-        let (number, place) = match *self {
+// What the refusal names.
+impl From<ModelFault> for Refusal {
+    ghost from_gives = { λ fault refusal. refusal ≡ refusal_of fault };
+
+    fn from(fault: ModelFault) -> Refusal {
+        let (number, place) = match fault {
             ModelFault::KindsFull => (1, MAX_KINDS),
             ModelFault::PointCount(count) => (2, count),
             ModelFault::EndStep(point) => (3, point),

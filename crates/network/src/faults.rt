@@ -24,12 +24,12 @@ pub enum DraftFault {
     KindTooLarge(u8),
 }
 
-impl DraftFault {
-    // What the refusal names.
-    pub fn refusal(&self) -> Refusal
-        ensures { result ≡ refusal_of self.now }
-    {
-        let (number, place) = match *self {
+// What the refusal names.
+impl From<DraftFault> for Refusal {
+    ghost from_gives = { λ fault refusal. refusal ≡ refusal_of fault };
+
+    fn from(fault: DraftFault) -> Refusal {
+        let (number, place) = match fault {
             DraftFault::NetsFull => (9, 256),
             DraftFault::ArcsFull => (10, 1024),
             DraftFault::NoSuchNet(net) => (11, net as usize),

@@ -31,11 +31,11 @@ fn timing_report<M: DelayModel>(
 ) -> Result<String, AllocError> {
     let late = match time_block(heap, block, model, Late)? {
         Ok(late) => late,
-        Err(fault) => return fault_line(heap, len, fault.refusal()),
+        Err(fault) => return fault_line(heap, len, fault.into()),
     };
     let early = match time_block(heap, block, model, Early)? {
         Ok(early) => early,
-        Err(fault) => return fault_line(heap, len, fault.refusal()),
+        Err(fault) => return fault_line(heap, len, fault.into()),
     };
     timing_lines(heap, &late, &early)
 }
@@ -45,7 +45,7 @@ pub fn report(heap: Global, file: &[u8]) -> Result<String, AllocError> {
     let mut draft = Draft::new(heap)?;
     let mut model = Points::new(heap)?;
     if let Err(fault) = load(file, &mut draft, &mut model) {
-        return fault_line(heap, fault.offset, fault.refusal());
+        return fault_line(heap, fault.offset, fault.into());
     }
     let block = SettledBlock::settle(draft, MARK);
     timing_report(heap, &block, &model, file.len())

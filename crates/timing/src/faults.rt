@@ -12,12 +12,12 @@ pub enum TimingFault {
     KindNotHeld(u16),
 }
 
-impl TimingFault {
-    // What the refusal names.
-    pub fn refusal(&self) -> Refusal
-        ensures { result ≡ refusal_of self.now }
-    {
-        let (number, place) = match *self {
+// What the refusal names.
+impl From<TimingFault> for Refusal {
+    ghost from_gives = { λ fault refusal. refusal ≡ refusal_of fault };
+
+    fn from(fault: TimingFault) -> Refusal {
+        let (number, place) = match fault {
             TimingFault::AreaTooShort(area) => (22, area as usize),
             TimingFault::KindNotHeld(arc) => (23, arc as usize),
         };

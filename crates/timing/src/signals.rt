@@ -17,7 +17,7 @@ pub fn clear(signals: &mut [SignalRecord], count: usize)
 
 // Of two records of one step, the one with the worse time; the old one where they are level.
 fn worse_of<S: Sense>(old: SignalRecord, new: SignalRecord) -> SignalRecord {
-    if old.kept && S::as_bad_unsigned(old.time, new.time) {
+    if old.kept && S::as_bad(old.time, new.time) {
         old
     } else {
         new
@@ -34,7 +34,7 @@ pub fn offer<S: Sense>(signals: &mut [SignalRecord], at: usize, new: SignalRecor
 
 // Whether the signal of a record, at its step, covers another.
 fn covers<S: Sense>(a: SignalRecord, a_step: u32, b: SignalRecord, b_step: u32) -> bool {
-    a.kept && S::as_bad_unsigned(a.time, b.time) && S::as_bad_unsigned(a_step, b_step)
+    a.kept && S::as_bad(a.time, b.time) && S::as_bad(a_step, b_step)
 }
 
 // Whether another signal of the net covers the one of that step.

@@ -1,8 +1,40 @@
 // The late and the early sense: when a figure is at least as bad as another, and slack.
-ghost use Rattle.std.specs.Prelude.{◌≡◌, ◌⊎◌, pos, refl};
+ghost use Rattle.std.specs.Prelude.{◌≡◌, ◌⊎◌, ℤ, pos, refl};
 ghost use Rattle.std.proofs.Common.{inl, inr};
 ghost use Rattle.units.specs.Senses.{Order, Lawful, late_order, early_order};
 ghost use Rattle.units.specs.Laws.{late_lawful, early_lawful};
+
+// What a sense compares: steps and times, which are never negative, and required times.
+pub trait Figure: Copy {
+    ghost value: { Self → ℤ };
+
+    fn value(self) -> i64
+        ensures { result ≡ value self };
+}
+
+impl Figure for u8 {
+    ghost value = { pos };
+
+    fn value(self) -> i64 {
+        i64::from(self)
+    }
+}
+
+impl Figure for u32 {
+    ghost value = { pos };
+
+    fn value(self) -> i64 {
+        i64::from(self)
+    }
+}
+
+impl Figure for i32 {
+    ghost value = { λ x. x };
+
+    fn value(self) -> i64 {
+        i64::from(self)
+    }
+}
 
 pub trait Sense {
     ghost order: { Order };
@@ -12,12 +44,8 @@ pub trait Sense {
         ensures { result ≡ order.is_late };
 
     // Whether the figure `a` is at least as bad as `b`.
-    fn as_bad(a: i32, b: i32) -> bool
-        ensures { result ≡ order.as_bad a b };
-
-    // The same of figures that are never negative: times and steps.
-    fn as_bad_unsigned(x: u32, y: u32) -> bool
-        ensures { result ≡ order.as_bad (pos x) (pos y) };
+    fn as_bad<F: Figure>(a: F, b: F) -> bool
+        ensures { result ≡ order.as_bad (F.Figure.value a) (F.Figure.value b) };
 
     // The slack of a time against a required time.
     fn slack(time: u32, required: i32) -> i64
@@ -43,12 +71,8 @@ impl Sense for Late {
         true
     }
 
-    fn as_bad(a: i32, b: i32) -> bool {
-        a >= b
-    }
-
-    fn as_bad_unsigned(x: u32, y: u32) -> bool {
-        x >= y
+    fn as_bad<F: Figure>(a: F, b: F) -> bool {
+        a.value() >= b.value()
     }
 
     fn slack(time: u32, required: i32) -> i64 {
@@ -70,12 +94,8 @@ impl Sense for Early {
         false
     }
 
-    fn as_bad(a: i32, b: i32) -> bool {
-        a <= b
-    }
-
-    fn as_bad_unsigned(x: u32, y: u32) -> bool {
-        x <= y
+    fn as_bad<F: Figure>(a: F, b: F) -> bool {
+        a.value() <= b.value()
     }
 
     fn slack(time: u32, required: i32) -> i64 {

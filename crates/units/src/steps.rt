@@ -28,10 +28,7 @@ fn picoseconds_of(step: u8) -> u16
 pub fn transition_of(step: u8) -> Option<u16>
     ensures { MatchOption result (last_step < step) (λ ps. (step ≤ last_step) × (ps ≡ picoseconds step)) }
 {
-    if step > LAST_STEP {
-        return None;
-    }
-    Some(picoseconds_of(step))
+    (step <= LAST_STEP).then(|| picoseconds_of(step))
 }
 
 // The smallest step that stands for at least that many picoseconds; the last step where none does.

@@ -33,9 +33,7 @@ impl Curve {
     pub fn new(points: &[Point]) -> Result<Curve, ModelFault>
         ensures { Outcome refusal_of (point_rows points.now) result (λ c. points_of c ≡ points.now) (Unit {0}) }
     {
-        if let Err(fault) = test_points(points) {
-            return Err(fault);
-        }
+        test_points(points)?;
         let row = padded(points);
         let figures = tabulate(points);
         Ok(Curve {
