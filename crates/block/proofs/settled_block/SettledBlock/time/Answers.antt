@@ -4,8 +4,8 @@ use Rattle.block.proofs.settled_block.SettledBlock.time.Goals as goal
 pub returns-in-Some-clause-facts : goal.returns-in-Some-clause-facts
 returns-in-Some-clause-facts g c = timing_facts c.args.self.now.network (g.M.DelayModel.meaning c.args.model.now) g.S.Sense.order (g.met.M.DelayModel.lawful c.args.model.now) g.met.S.Sense.lawful g.met.S.Sense.late_or_early
 
-pub returns-in-Ok-clause-facts : goal.returns-in-Ok-clause-facts
-returns-in-Ok-clause-facts g c = timing_facts c.args.self.now.network (g.M.DelayModel.meaning c.args.model.now) g.S.Sense.order (g.met.M.DelayModel.lawful c.args.model.now) g.met.S.Sense.lawful g.met.S.Sense.late_or_early
-
 pub returns-clause-facts : goal.returns-clause-facts
 returns-clause-facts g c = timing_facts c.args.self.now.network (g.M.DelayModel.meaning c.args.model.now) g.S.Sense.order (g.met.M.DelayModel.lawful c.args.model.now) g.met.S.Sense.lawful g.met.S.Sense.late_or_early
+
+pub returns-in_err-time-clause-facts : goal.returns-in_err-time-clause-facts
+returns-in_err-time-clause-facts g c = timing_facts c.args.self.now.network (g.M.DelayModel.meaning c.args.model.now) g.S.Sense.order (g.met.M.DelayModel.lawful c.args.model.now) g.met.S.Sense.lawful g.met.S.Sense.late_or_early
