@@ -35,10 +35,7 @@ pub fn transition_of(step: u8) -> Option<u16>
 pub fn step_of(transition: u16) -> u8
     ensures { RoundedUp transition result }
 {
-    for step in 0..LAST_STEP {
-        if picoseconds_of(step) >= transition {
-            return step;
-        }
-    }
-    LAST_STEP
+    (0..LAST_STEP)
+        .find(|&step| picoseconds_of(step) >= transition)
+        .unwrap_or(LAST_STEP)
 }

@@ -1,11 +1,12 @@
-use Rattle.std.proofs.Common.{◌*◌, ◌≤◌, mul-le-mul, arith}
-use Rattle.units.specs.Steps.{last_step}
+use Rattle.std.proofs.Common.{◌<◌, ◌≤◌, sym, subst, rules}
+use Rattle.std.proofs.lemmas.Iterator.{first_from_Range}
+use borrow.Author.Tests.{tests}
+use Rattle.units.specs.Steps.{picoseconds, RoundedUp}
+use Rattle.units.proofs.Rounding.{rounded_up}
 use Rattle.units.proofs.steps.step_of.Goals as goal
 
--- a step below the last stands for less than the longest transition
-pub returns-then-picoseconds_of-transition : goal.returns-then-picoseconds_of-transition
-returns-then-picoseconds_of-transition c =
-    let s = c.loop-step.step in
-    let le : s ≤ last_step = omega arith in
-    let square : s * s ≤ last_step * last_step = mul-le-mul {n₂ = last_step} {m₂ = last_step} le le in
-    record { within = le; reaches = λ _. omega arith; smallest = c.loop-step.invariant; too_long = λ h. absurd (omega arith) }
+pub returns : goal.returns
+returns c =
+    let transition = c.args.transition in
+    let first = first_from_Range _ _ _ _ (λ s. transition ≤ picoseconds s) (λ s. picoseconds s < transition) c.find.ensures.ran (λ x q k. search (rules, tests)) (λ x q k. search (rules, tests)) in
+    subst (RoundedUp transition) (sym c.unwrap_or.ensures) (rounded_up transition c.find.result first)
