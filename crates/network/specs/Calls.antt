@@ -13,7 +13,7 @@ use Rattle.network.specs.Figures.{launch_rows, limit_rows}
 
 -- the block that a draft holds
 abbrev pub draft_block : Draft → Block
-draft_block d = record { nets = vec_items d.nets; arcs = vec_items d.arcs }
+draft_block d = record { nets = vec_items d.netlist.nets; arcs = vec_items d.netlist.arcs }
 
 abbrev pub empty_block : Block
 empty_block = record { nets = []; arcs = [] }

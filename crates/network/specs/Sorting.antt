@@ -6,11 +6,7 @@ use Rattle.paths.specs.Orders.{place_of, Placed, Unplaced, Numbers, Once, TailsF
 use Rattle.network.specs.declared.order.Order.{Order}
 
 abbrev pub placed_nets : Order → List ℕ
-placed_nets o = take o.placed o.nets
-
--- as many stand there as it counts
-abbrev pub Filled : Order → Type 0
-Filled o = (o.placed ≤ max_nets) × (length (placed_nets o) ≡ o.placed)
+placed_nets o = take o.placed o.nets.items
 
 abbrev pub one_if : Bool → ℕ
 one_if true = 1

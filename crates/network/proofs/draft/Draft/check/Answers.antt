@@ -8,10 +8,10 @@ pub returns-in-Some : goal.returns-in-Some
 returns-in-Some c =
     let d = c.args.self.now in
     let sorted = c.topological_order-cycle.ensures in
-    (c.in-Some.net, refl, subst (CycleAt (draft_block d)) c.in-Some.is (found_cycle (draft_block d) _ _ _ _ (c.len.ensures ∙ d.nets.ok.0) c.deref-2.ensures.value d.joined sorted.off sorted.lowest))
+    (c.in-Some.net, refl, subst (CycleAt (draft_block d)) c.in-Some.is (found_cycle (draft_block d) _ _ _ _ (c.len.ensures ∙ d.netlist.nets.ok.0) c.deref-2.ensures.value d.joined sorted.off sorted.lowest))
 
 pub returns-in-None : goal.returns-in-None
 returns-in-None c =
     let d = c.args.self.now in
     let sorted = c.topological_order-cycle.ensures in
-    subst (CycleAt (draft_block d)) c.in-None.is (found_cycle (draft_block d) _ _ _ _ (c.len.ensures ∙ d.nets.ok.0) c.deref-2.ensures.value d.joined sorted.off sorted.lowest)
+    subst (CycleAt (draft_block d)) c.in-None.is (found_cycle (draft_block d) _ _ _ _ (c.len.ensures ∙ d.netlist.nets.ok.0) c.deref-2.ensures.value d.joined sorted.off sorted.lowest)
