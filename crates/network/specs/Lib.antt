@@ -1,5 +1,5 @@
-pub mod ArcLists
 pub mod Calls
+pub mod FanOuts
 pub mod Faults
 pub mod Figures
 pub mod Orders

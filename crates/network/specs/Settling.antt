@@ -4,7 +4,7 @@ use Rattle.paths.specs.Blocks.{Block}
 use Rattle.paths.specs.Cycles.{CycleAt, LeftIsReachable}
 use Rattle.paths.specs.Orders.{Numbers, Once, TailsFirst, TopologicalOrder}
 use Rattle.network.specs.declared.settled.Network.{Network}
-use Rattle.network.specs.ArcLists.{FirstsOut, NextsOut}
+use Rattle.network.specs.FanOuts.{FansOut}
 use Rattle.network.specs.Sorting.{placed_nets}
 
 -- the block that a settled network holds
@@ -25,5 +25,4 @@ pub record Settled (b : Block) (n : Network) : Type 0 where
   -- so without a cycle it holds all nets; which of several topological orders it is, is free
   pub topological : n.cycle ≡ None → TopologicalOrder (length b.nets) b.arcs (placed_nets n.order)
   -- the arcs out of each net
-  pub firsts : FirstsOut b.arcs n.fan_out.first
-  pub nexts : NextsOut b.arcs n.fan_out.next
+  pub fans : FansOut b.arcs n.fan_out

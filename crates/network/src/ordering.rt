@@ -3,7 +3,7 @@ ghost use Rattle.std.specs.Prelude.{◌≡◌, ◌+◌, ◌<◌, ◌≤◌, leng
 ghost use Rattle.paths.specs.Blocks.{max_nets, max_arcs, Joined};
 ghost use Rattle.paths.specs.Cycles.{TakenOff};
 ghost use Rattle.paths.specs.Orders.{LowestUnplaced};
-ghost use Rattle.network.specs.ArcLists.{FirstsOut, NextsOut};
+ghost use Rattle.network.specs.FanOuts.{FansOut};
 ghost use Rattle.network.specs.Orders.{NetNumbers, AllZero};
 ghost use Rattle.network.specs.Sorting.{placed_nets, Filled, Counted, SourcesPlaced, Sorting, LowestPending};
 
@@ -47,8 +47,7 @@ fn release_heads(at: usize, arcs: &[Arc], fan_out: &FanOut, pending: &mut [u16],
     requires nets { length pending.old ≤ max_nets }
     requires few { length arcs.now ≤ max_arcs }
     requires joined { Joined (length pending.old) arcs.now }
-    requires firsts { FirstsOut arcs.now fan_out.now.first }
-    requires nexts { NextsOut arcs.now fan_out.now.next }
+    requires fans { FansOut arcs.now fan_out.now }
     requires numbers { NetNumbers (length pending.old) order.old.nets }
     requires sorting { Sorting arcs.now at 0 pending.old (placed_nets order.old) }
     ensures at { at < order.new.placed }
@@ -57,16 +56,13 @@ fn release_heads(at: usize, arcs: &[Arc], fan_out: &FanOut, pending: &mut [u16],
     ensures numbers { NetNumbers (length pending.old) order.new.nets }
     ensures sorting { Sorting arcs.now (at + 1) 0 pending.new (placed_nets order.new) }
 {
-    let net = order.nets[at];
-    let mut i = fan_out.first[net as usize];
-    while (i as usize) < arcs.len() {
+    for &i in fan_out.arcs_out(order.nets[at]) {
         let head = arcs[i as usize].head;
         let left = pending[head as usize] - 1;
         pending[head as usize] = left;
         if left == 0 {
             order.place(head);
         }
-        i = fan_out.next[i as usize];
     }
 }
 
@@ -88,8 +84,7 @@ fn sort(arcs: &[Arc], fan_out: &FanOut, pending: &mut [u16]) -> (Order, Option<u
     requires nets { length pending.old ≤ max_nets }
     requires few { length arcs.now ≤ max_arcs }
     requires joined { Joined (length pending.old) arcs.now }
-    requires firsts { FirstsOut arcs.now fan_out.now.first }
-    requires nexts { NextsOut arcs.now fan_out.now.next }
+    requires fans { FansOut arcs.now fan_out.now }
     requires zero { AllZero pending.old }
     ensures filled { Filled result.0 }
     ensures numbers { NetNumbers (length pending.old) result.0.nets }
@@ -116,8 +111,7 @@ pub(crate) fn topological_order(
     requires nets { count ≤ max_nets }
     requires few { length arcs.now ≤ max_arcs }
     requires joined { Joined count arcs.now }
-    requires firsts { FirstsOut arcs.now fan_out.now.first }
-    requires nexts { NextsOut arcs.now fan_out.now.next }
+    requires fans { FansOut arcs.now fan_out.now }
     ensures filled { Filled result.0 }
     ensures numbers { NetNumbers count result.0.nets }
     ensures off { TakenOff count arcs.now (placed_nets result.0) }

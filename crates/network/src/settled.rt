@@ -3,7 +3,7 @@ ghost use Rattle.std.specs.Prelude.{◌≡◌, ℕ, ◌<◌, ◌≤◌, length, 
 ghost use Rattle.paths.specs.Blocks.{max_nets, max_arcs, block, Joined, KindsFit, TimesFit, TransitionsFit, LateLimitsFit, EarlyLimitsFit};
 ghost use Rattle.paths.specs.Cycles.{NoneCanBePlaced, CycleAt, LeftIsReachable};
 ghost use Rattle.paths.specs.Orders.{Placed, Unplaced, Numbers, Once, TailsFirst, Whole, TopologicalOrder};
-ghost use Rattle.network.specs.ArcLists.{Begins, Rises, Ends, FirstsOut, NextsOut};
+ghost use Rattle.network.specs.FanOuts.{FansOut};
 ghost use Rattle.network.specs.Orders.{NetNumbers};
 ghost use Rattle.network.specs.Sorting.{placed_nets, Filled};
 
@@ -28,9 +28,6 @@ pub struct Network {
     ghost lates: { LateLimitsFit nets.items },
     ghost earlies: { EarlyLimitsFit nets.items },
     ghost numbers: { NetNumbers (length nets.items) order.nets },
-    ghost begins: { Begins (length arcs.items) fan_out.first },
-    ghost rises: { Rises (length arcs.items) fan_out.next },
-    ghost ends: { Ends (length arcs.items) fan_out.next },
     ghost filled: { Filled order },
     ghost placed_numbers: { Numbers (length nets.items) (placed_nets order) },
     ghost once: { Once (placed_nets order) },
@@ -40,8 +37,7 @@ pub struct Network {
     ghost long: { (cycle ≡ None → length (placed_nets order) ≡ length nets.items) },
     ghost left: { ((n : ℕ) → cycle ≡ Some n → (n < length nets.items) × Unplaced (placed_nets order) n) },
     ghost lowest: { ((n k : ℕ) → cycle ≡ Some n → k < n → Placed (placed_nets order) k) },
-    ghost firsts: { FirstsOut arcs.items fan_out.first },
-    ghost nexts: { NextsOut arcs.items fan_out.next },
+    ghost fans: { FansOut arcs.items fan_out },
 }
 
 impl Network {
@@ -86,11 +82,7 @@ impl Network {
 
     pub fn fan_out(&self) -> &FanOut
         ensures value { result.now ≡ self.now.fan_out }
-        ensures begins { Begins (length self.now.arcs.items) result.now.first }
-        ensures rises { Rises (length self.now.arcs.items) result.now.next }
-        ensures ends { Ends (length self.now.arcs.items) result.now.next }
-        ensures firsts { FirstsOut self.now.arcs.items result.now.first }
-        ensures nexts { NextsOut self.now.arcs.items result.now.next }
+        ensures fans { FansOut self.now.arcs.items result.now }
     {
         &self.fan_out
     }
