@@ -14,6 +14,9 @@ arcs_out (a ∷ more) n i = cond (a.tail == n) (i ∷ arcs_out more n (i + 1)) (
 abbrev pub span_of : List Span → ℕ → Span
 span_of spans n = slice_index_or spans n (record { start = 0; end = 0 })
 
+abbrev pub IsEmptyAt : Span → ℕ → Type 0
+IsEmptyAt s start = (s.start ≡ start) × (s.end ≡ start)
+
 -- the part of the table that is a net's
 abbrev pub listed : FanOut → ℕ → List ℕ
 listed f n = slice_range f.arcs (span_of f.spans n).start (span_of f.spans n).end
