@@ -1,4 +1,5 @@
 pub mod Counting
+pub mod FanOuts
 pub mod Growth
 pub mod Releasing
 pub mod SettledFacts

@@ -64,9 +64,9 @@ resort arcs at i at' i' pending order same S = record {
   full = S.full;
 }
 
--- on to the next arc out of the net: those between are not out of it
-pub skip : (arcs : List Arc) (at k x : ℕ) (pending order : List ℕ) → at < length order → k ≤ x → ((j : ℕ) → k ≤ j → j < x → j < length arcs → tail_of arcs j ≢ get_or order at 0) → Sorting arcs at k pending order → Sorting arcs at x pending order
-skip arcs at k x pending order within up between = resort arcs at k at x pending order same
+-- on to the next arc out of the net
+pub skip : (arcs : List Arc) (at k x : ℕ) (pending order : List ℕ) → at < length order → k ≤ x → ((j : ℕ) → k ≤ j → j < length arcs → tail_of arcs j ≡ get_or order at 0 → x ≤ j) → Sorting arcs at k pending order → Sorting arcs at x pending order
+skip arcs at k x pending order within up least = resort arcs at k at x pending order same
   where
     there : (j : ℕ) → j < length arcs → place_of order (tail_of arcs j) ≡ at → waits (place_of order (tail_of arcs j)) at k j ≡ waits (place_of order (tail_of arcs j)) at x j
     there j lt e =
@@ -74,10 +74,7 @@ skip arcs at k x pending order within up between = resort arcs at k at x pending
         let own : tail_of arcs j ≡ get_or order at 0 = sym (at_place order (tail_of arcs j) (omega arith)) ∙ ap (λ (n : ℕ). get_or order n 0) e in
         elim (cases_lt j k) [
           | inl h ↦ there_done p at k j e h ∙ sym (there_done p at x j e (omega arith))
-          | inr h ↦ elim (cases_lt j x) [
-            | inl l ↦ absurd (between j h l lt own)
-            | inr g ↦ there_waits p at k j e h ∙ sym (there_waits p at x j e g)
-          ]
+          | inr h ↦ there_waits p at k j e h ∙ sym (there_waits p at x j e (least j h lt own))
         ]
 
     same : (j : ℕ) → j < length arcs → waits (place_of order (tail_of arcs j)) at k j ≡ waits (place_of order (tail_of arcs j)) at x j

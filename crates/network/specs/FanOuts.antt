@@ -14,6 +14,7 @@ arcs_out (a ∷ more) n i = cond (a.tail == n) (i ∷ arcs_out more n (i + 1)) (
 abbrev pub span_of : List Span → ℕ → Span
 span_of spans n = slice_index_or spans n (record { start = 0; end = 0 })
 
+-- a span that begins there and holds nothing yet
 abbrev pub IsEmptyAt : Span → ℕ → Type 0
 IsEmptyAt s start = (s.start ≡ start) × (s.end ≡ start)
 

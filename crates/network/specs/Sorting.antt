@@ -1,7 +1,7 @@
 -- What sorting the nets keeps: how many arcs into each net wait, and which nets are placed. Assumes nothing.
-use Rattle.std.specs.Prelude.{◌≡◌, ℕ, zero, suc, ◌+◌, ◌<◌, ◌≤◌, Bool, true, false, cond, ◌&&◌, List, length, take, Some, None, Option, ◌==◌, nat_eq, nat_le, nat_lt, slice_index}
+use Rattle.std.specs.Prelude.{◌≡◌, ℕ, zero, suc, ◌+◌, ◌<◌, Bool, true, false, cond, ◌&&◌, List, length, take, Some, None, Option, ◌==◌, nat_eq, nat_le, nat_lt, slice_index}
 use Rattle.paths.specs.declared.blocks.Arc.{Arc}
-use Rattle.paths.specs.Blocks.{max_nets, tail_of, head_of}
+use Rattle.paths.specs.Blocks.{tail_of, head_of}
 use Rattle.paths.specs.Orders.{place_of, Placed, Unplaced, Numbers, Once, TailsFirst}
 use Rattle.network.specs.declared.order.Order.{Order}
 

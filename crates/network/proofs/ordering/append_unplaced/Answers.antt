@@ -1,4 +1,4 @@
-use Rattle.std.proofs.Common.{◌+◌, ◌≤◌, length, ◌∙◌, arith, rules}
+use Rattle.std.proofs.Common.{◌+◌, ◌≤◌, length, ◌∙◌, arith}
 use Rattle.std.proofs.lemmas.List.{length_push, take-append-le}
 use Rattle.paths.proofs.Places.{numbers_push}
 use Rattle.network.proofs.SortingSteps.{zeros_within, zeros_rest, no_zero, one_zero}

@@ -1,4 +1,4 @@
-use Rattle.std.proofs.Common.{eqb, get_or, arith}
+use Rattle.std.proofs.Common.{arith}
 use Rattle.network.proofs.SortingSteps.{zeros_within, source_placed, source_skipped}
 use Rattle.network.proofs.ordering.sources.Goals.{then-count-eq0, else-count-eq0}
 use Rattle.network.proofs.ordering.sources.Goals as goal

@@ -1,4 +1,4 @@
-use Rattle.std.proofs.Common.{◌≤◌, ◌<◌, length, get_or, arith, rules}
+use Rattle.std.proofs.Common.{arith, rules}
 use Rattle.std.proofs.lemmas.List.{get_or-replicate}
 use Rattle.paths.specs.Blocks.{max_nets}
 use Rattle.network.proofs.SortingSteps.{counted_more, counted_within}
