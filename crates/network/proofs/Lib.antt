@@ -1,6 +1,5 @@
 pub mod Counting
 pub mod FanOuts
-pub mod Growth
 pub mod Releasing
 pub mod SettledFacts
 pub mod SortingSteps

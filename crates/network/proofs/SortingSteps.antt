@@ -312,9 +312,6 @@ counted_more arcs k pending inside counted h lt =
 
 -- the nets that no arc leads into
 
-pub no_sources : (pending : List ℕ) → SourcesPlaced pending 0 []
-no_sources pending = record { numbers = λ k h. absurd (omega arith); once = λ k h. absurd (omega arith); placed = λ n h. absurd (omega arith); unplaced = λ n _. omega arith; full = refl }
-
 pub source_skipped : (pending : List ℕ) (k : ℕ) (order : List ℕ) → 0 < get_or pending k 0 → SourcesPlaced pending k order → SourcesPlaced pending (k + 1) order
 source_skipped pending k order pos P = record {
   numbers = λ n h. let lt = P.numbers n h in omega arith;
