@@ -84,9 +84,9 @@ fn sources(pending: &[u16]) -> ArrayVec<u16, MAX_NETS>
     ensures { SourcesPlaced pending.now (length pending.now) result.items }
 {
     let mut order = ArrayVec::new();
-    for (net, &count) in pending.iter().enumerate() {
+    for (source, &count) in pending.iter().enumerate() {
         if count == 0 {
-            order.push(net as u16);
+            order.push(source as u16);
         }
     }
     order

@@ -1,5 +1,5 @@
 use Rattle.network.specs.Sorting.{SourcesPlaced}
 use Rattle.network.proofs.ordering.sources.Given as goal
 
-abbrev pub invariant-loop-net : goal.invariant-loop-net
-invariant-loop-net l = SourcesPlaced l.pending l.net l.order.items
+abbrev pub invariant-loop-source : goal.invariant-loop-source
+invariant-loop-source l = SourcesPlaced l.pending l.source l.order.items
