@@ -6,7 +6,7 @@ use Rattle.std.proofs.lemmas.Bool.{cases_lt, and_from}
 use Rattle.std.proofs.lemmas.Bool.Decides.{nat_tests}
 use Rattle.paths.specs.declared.blocks.Arc.{Arc}
 use Rattle.paths.specs.Blocks.{tail_of, head_of, Joined}
-use Rattle.paths.specs.Orders.{place_of, Placed, Unplaced, Numbers, TailsFirst, LowestUnplaced}
+use Rattle.paths.specs.Orders.{place_of, Placed, Unplaced, Numbers, TailsFirst}
 use Rattle.paths.specs.Cycles.{TakenOff}
 use Rattle.paths.proofs.Places.{at_place, place_kept, place_new, place_other, once_push, numbers_push, none_past}
 use Rattle.network.specs.Sorting.{one_if, arcs_into, Counted, waits, waiting, zeros, SourcesPlaced, Sorting, LowestPending}
@@ -385,10 +385,6 @@ module _ (arcs : List Arc) (at : ℕ) (pending order : List ℕ) (S : Sorting ar
           ]) in
           let p = S.placed n lt (S.counted n lt ∙ none) in
           omega arith
-
-  pub lowest_left : (o : Option ℕ) → LowestPending pending o → LowestUnplaced (length pending) order o
-  lowest_left None none = λ n lt. S.placed n lt (none n lt)
-  lowest_left (Some n) (lt, pos, below) = (lt, S.unplaced n pos, λ k h. S.placed k (omega arith) (below k h))
 
   pub all_placed : (o : Option ℕ) → LowestPending pending o → o ≡ None → length order ≡ length pending
   all_placed None none e = S.full ∙ count_all (λ n. eqb (get_or pending n 0) 0) (length pending) (λ n lt. eq-eqb (get_or pending n 0) 0 (none n lt))

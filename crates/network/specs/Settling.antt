@@ -1,15 +1,16 @@
 -- What settling makes of a draft. Assumes nothing.
-use Rattle.std.specs.Prelude.{◌≡◌, length, None, vec_items}
+use Rattle.std.specs.Prelude.{◌≡◌, length, None}
 use Rattle.paths.specs.Blocks.{Block}
 use Rattle.paths.specs.Cycles.{CycleAt, LeftIsReachable}
 use Rattle.paths.specs.Orders.{Numbers, Once, TailsFirst, TopologicalOrder}
 use Rattle.network.specs.declared.settled.Network.{Network}
 use Rattle.network.specs.FanOuts.{FansOut}
+use Rattle.network.specs.Netlists.{netlist_block}
 use Rattle.network.specs.Sorting.{placed_nets}
 
 -- the block that a settled network holds
 abbrev pub network_block : Network → Block
-network_block n = record { nets = vec_items n.netlist.nets; arcs = vec_items n.netlist.arcs }
+network_block n = netlist_block n.netlist
 
 pub record Settled (b : Block) (n : Network) : Type 0 where
   -- the same nets, launches, limits, arcs and kinds
