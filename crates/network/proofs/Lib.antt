@@ -1,7 +1,5 @@
 pub mod Counting
-pub mod Growth
-pub mod LinkedArcs
-pub mod Linking
+pub mod FanOuts
 pub mod Releasing
 pub mod SettledFacts
 pub mod SortingSteps

@@ -1,56 +1,73 @@
--- The arcs out of one net counted off, one after the other along its list. Assumes nothing.
-use Rattle.std.proofs.Common.{◌≡◌, ℕ, ◌+◌, ◌-◌, ◌<◌, ◌≤◌, ◌≢◌, List, [], ◌∷◌, ◌++◌, length, get_or, set, sym, ap, ◌∙◌, subst, arith}
+-- The arcs out of one net counted off, one after the other. Assumes nothing.
+use Rattle.std.proofs.Common.{◌≡◌, ℕ, ◌+◌, ◌-◌, ◌<◌, ◌≤◌, ◌≢◌, List, [], ◌∷◌, ◌++◌, length, get_or, drop, set, sym, ap, ◌∙◌, subst, inl, inr, arith}
 use Rattle.std.proofs.lemmas.List.{length_push, get_or_append_left}
+use Rattle.std.proofs.lemmas.Bool.{cases_lt}
 use Rattle.paths.specs.declared.blocks.Arc.{Arc}
-use Rattle.paths.specs.Blocks.{max_nets, max_arcs, tail_of, head_of, Joined}
+use Rattle.paths.specs.Blocks.{tail_of, head_of, Joined}
 use Rattle.paths.specs.Orders.{place_of}
-use Rattle.network.specs.ArcLists.{FirstsOut, NextsOut}
+use Rattle.network.specs.FanOuts.{arcs_out}
 use Rattle.network.specs.Sorting.{Sorting}
-use Rattle.network.proofs.LinkedArcs.{LowestOut, lowest_out}
-use Rattle.network.proofs.SortingSteps.{skip, some_waits, has_room, still_waits, head_placed}
+use Rattle.network.proofs.FanOuts.{NextOut, next_listed, none_listed}
+use Rattle.network.proofs.SortingSteps.{skip, released, some_waits, has_room, still_waits, head_placed}
 
--- those below i out of the net at its place are
-pub record Releasing (arcs : List Arc) (at i net : ℕ) (pending order : List ℕ) : Type 0 where
+-- of the arcs out of the net at its place those before place x of their list are counted off, which are those below k
+pub record Releasing (arcs : List Arc) (at k net : ℕ) (list : List ℕ) (x : ℕ) (pending order : List ℕ) : Type 0 where
   pub within : at < length order
   pub net_is : get_or order at 0 ≡ net
-  pub out : i < length arcs → tail_of arcs i ≡ net
-  pub sorting : Sorting arcs at i pending order
+  pub left_is : drop x list ≡ arcs_out (drop k arcs) net k
+  pub sorting : Sorting arcs at k pending order
 
--- on to the lowest arc out of the net from number k on
-on_to : (arcs : List Arc) (at k x net : ℕ) (pending order : List ℕ) → at < length order → get_or order at 0 ≡ net → LowestOut arcs net k x → Sorting arcs at k pending order → Releasing arcs at x net pending order
-on_to arcs at k x net pending order within net_is lowest S = record {
-  within = within;
-  net_is = net_is;
-  out = λ lt. (lowest.out lt).1;
-  sorting = skip arcs at k x pending order within (subst (λ (n : ℕ). LowestOut arcs n k x) (sym net_is) lowest) S;
-}
+-- the next one is an arc i with head h; h counted off, and placed or not
+pub record Step (arcs : List Arc) (at net : ℕ) (list : List ℕ) (x i h : ℕ) (pending order : List ℕ) : Type 0 where
+  pub is_arc : i < length arcs
+  pub inside : h < length pending
+  pub waits : 0 < get_or pending h 0
+  pub room : length order < length pending
+  pub on : get_or pending h 0 - 1 ≢ 0 → Releasing arcs at (i + 1) net list (x + 1) (set pending h (get_or pending h 0 - 1)) order
+  pub placed : get_or pending h 0 - 1 ≡ 0 → Releasing arcs at (i + 1) net list (x + 1) (set pending h (get_or pending h 0 - 1)) (order ++ h ∷ [])
 
-pub release_begins : (arcs : List Arc) (at net : ℕ) (first pending order : List ℕ) → length arcs ≤ max_arcs → net < max_nets → at < length order → get_or order at 0 ≡ net → FirstsOut arcs first → Sorting arcs at 0 pending order → Releasing arcs at (get_or first net 0) net pending order
-release_begins arcs at net first pending order few lt within net_is firsts S =
-    on_to arcs at 0 (get_or first net 0) net pending order within net_is (subst (LowestOut arcs net 0) (sym (firsts net lt)) (lowest_out arcs few net 0)) S
+module _ (arcs : List Arc) (at k net : ℕ) (list : List ℕ) (x : ℕ) (pending order : List ℕ) (R : Releasing arcs at k net list x pending order) where
+  module _ (joined : Joined (length pending) arcs) (lt : x < length list) where
+    abbrev arc : ℕ
+    arc = get_or list x 0
 
-module _ (arcs : List Arc) (at i net : ℕ) (next pending order : List ℕ) (few : length arcs ≤ max_arcs) (joined : Joined (length pending) arcs) (nexts : NextsOut arcs next) (R : Releasing arcs at i net pending order) (is-arc : i < length arcs) where
-  here : place_of order (tail_of arcs i) ≡ at
-  here = ap (place_of order) (R.out is-arc ∙ sym R.net_is) ∙ R.sorting.once at R.within
+    next : NextOut arcs net k arc (drop (x + 1) list)
+    next = next_listed arcs net k x list lt R.left_is
 
-  lowest : LowestOut arcs net (i + 1) (get_or next i 0)
-  lowest = subst (λ (n : ℕ). LowestOut arcs n (i + 1) (get_or next i 0)) (R.out is-arc) (subst (LowestOut arcs (tail_of arcs i) (i + 1)) (sym (nexts i is-arc)) (lowest_out arcs few (tail_of arcs i) (i + 1)))
+    here : place_of order (tail_of arcs arc) ≡ at
+    here = ap (place_of order) (next.2 ∙ sym R.net_is) ∙ R.sorting.once at R.within
 
-  pub head_waits : 0 < get_or pending (head_of arcs i) 0
-  head_waits = some_waits arcs at i pending order joined R.sorting R.within is-arc here
+    sorted : Sorting arcs at arc pending order
+    sorted = skip arcs at k arc pending order R.within next.0 (λ j ge h own. next.3 j ge h (own ∙ R.net_is)) R.sorting
 
-  pub room_for_head : length order < length pending
-  room_for_head = has_room arcs at i pending order joined R.sorting R.within is-arc here
+    head_waits : 0 < get_or pending (head_of arcs arc) 0
+    head_waits = some_waits arcs at arc pending order joined sorted R.within next.1 here
 
-  pub release_on : (left : ℕ) → left ≡ get_or pending (head_of arcs i) 0 - 1 → left ≢ 0 → Releasing arcs at (get_or next i 0) net (set pending (head_of arcs i) left) order
-  release_on left is more =
-      let pos = head_waits in
-      on_to arcs at (i + 1) (get_or next i 0) net (set pending (head_of arcs i) left) order R.within R.net_is lowest (still_waits arcs at i pending order joined R.sorting R.within is-arc here left (omega arith) (omega arith))
+    pub step : Step arcs at net list x arc (head_of arcs arc) pending order
+    step = record {
+      is_arc = next.1;
+      inside = (joined arc next.1).1;
+      waits = head_waits;
+      room = has_room arcs at arc pending order joined sorted R.within next.1 here;
+      on = λ more. record {
+        within = R.within;
+        net_is = R.net_is;
+        left_is = next.4;
+        sorting = let pos = head_waits in still_waits arcs at arc pending order joined sorted R.within next.1 here _ (omega arith) (omega arith);
+      };
+      placed = λ none. record {
+        within = let long = length_push order (head_of arcs arc) in let within = R.within in omega arith;
+        net_is = get_or_append_left order (head_of arcs arc ∷ []) 0 at R.within ∙ R.net_is;
+        left_is = next.4;
+        sorting =
+            let pos = head_waits in
+            subst (λ (v : ℕ). Sorting arcs at (arc + 1) (set pending (head_of arcs arc) v) (order ++ head_of arcs arc ∷ [])) (sym none)
+            (head_placed arcs at arc pending order joined sorted R.within next.1 here (omega arith));
+      };
+    }
 
-  pub release_head : (left : ℕ) → left ≡ get_or pending (head_of arcs i) 0 - 1 → left ≡ 0 → Releasing arcs at (get_or next i 0) net (set pending (head_of arcs i) left) (order ++ head_of arcs i ∷ [])
-  release_head left is none =
-      let pos = head_waits in
-      let within = R.within in
-      let long = length_push order (head_of arcs i) in
-      subst (λ (v : ℕ). Releasing arcs at (get_or next i 0) net (set pending (head_of arcs i) v) (order ++ head_of arcs i ∷ [])) (sym none)
-      (on_to arcs at (i + 1) (get_or next i 0) net (set pending (head_of arcs i) 0) (order ++ head_of arcs i ∷ []) (omega arith) (get_or_append_left order (head_of arcs i ∷ []) 0 at within ∙ R.net_is) lowest (head_placed arcs at i pending order joined R.sorting within is-arc here (omega arith)))
+  pub release_ends : length list ≤ x → Sorting arcs (at + 1) 0 pending order
+  release_ends past = elim (cases_lt k (length arcs)) [
+    | inr ge ↦ released arcs at k pending order ge R.sorting
+    | inl lt ↦ released arcs at (length arcs) pending order (omega arith) (skip arcs at k (length arcs) pending order R.within (omega arith) (λ j ge h own. absurd (none_listed arcs net k x list past R.left_is j ge h (own ∙ R.net_is))) R.sorting)
+  ]

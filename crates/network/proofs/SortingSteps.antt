@@ -1,17 +1,16 @@
 -- The steps of sorting: a source placed, arcs skipped, an arc counted off at its head, and what holds at the end. Assumes nothing.
-use Rattle.std.proofs.Common.{◌≡◌, ℕ, suc, ◌+◌, ◌<◌, ◌≤◌, Bool, true, false, cond, ◌&&◌, eqb, ltb, leb, ◌≢◌, List, [], ◌∷◌, ◌++◌, length, get_or, set, Some, None, Option, sym, refl, ap, ◌∙◌, subst, inl, inr, arith, eq-eqb, ne_eqb}
+use Rattle.std.proofs.Common.{◌≡◌, ℕ, zero, suc, ◌+◌, ◌-◌, ◌<◌, ◌≤◌, Bool, true, false, cond, ◌&&◌, eqb, ltb, leb, ◌≢◌, List, [], ◌∷◌, ◌++◌, length, get_or, take, set, Some, None, Option, sym, refl, ap, ◌∙◌, subst, inl, inr, arith, eq-eqb, ne_eqb, length-take-le}
 use native.Mathlib.Decide.{ℕ_discrete}
-use Rattle.std.proofs.lemmas.List.{length-set, length_push, get_or-set_same, get_or-set_other}
+use Rattle.std.proofs.lemmas.List.{length-set, length_push, get_or-set_same, get_or-set_other, get_or-take}
 use Rattle.std.proofs.lemmas.Bool.{cases_lt, and_from}
 use Rattle.std.proofs.lemmas.Bool.Decides.{nat_tests}
 use Rattle.paths.specs.declared.blocks.Arc.{Arc}
 use Rattle.paths.specs.Blocks.{tail_of, head_of, Joined}
-use Rattle.paths.specs.Orders.{place_of, Placed, Unplaced, Numbers, TailsFirst, LowestUnplaced}
+use Rattle.paths.specs.Orders.{place_of, Placed, Unplaced, Numbers, TailsFirst}
 use Rattle.paths.specs.Cycles.{TakenOff}
 use Rattle.paths.proofs.Places.{at_place, place_kept, place_new, place_other, once_push, numbers_push, none_past}
 use Rattle.network.specs.Sorting.{one_if, arcs_into, Counted, waits, waiting, zeros, SourcesPlaced, Sorting, LowestPending}
 use Rattle.network.proofs.Counting.{count_within, count_same, count_less, count_none, count_all, none_counted}
-use Rattle.network.proofs.LinkedArcs.{LowestOut}
 use Rattle.network.proofs.Writes.{after_write}
 
 -- when an arc waits
@@ -66,19 +65,16 @@ resort arcs at i at' i' pending order same S = record {
 }
 
 -- on to the next arc out of the net
-pub skip : (arcs : List Arc) (at k x : ℕ) (pending order : List ℕ) → at < length order → LowestOut arcs (get_or order at 0) k x → Sorting arcs at k pending order → Sorting arcs at x pending order
-skip arcs at k x pending order within lowest = resort arcs at k at x pending order same
+pub skip : (arcs : List Arc) (at k x : ℕ) (pending order : List ℕ) → at < length order → k ≤ x → ((j : ℕ) → k ≤ j → j < length arcs → tail_of arcs j ≡ get_or order at 0 → x ≤ j) → Sorting arcs at k pending order → Sorting arcs at x pending order
+skip arcs at k x pending order within up least = resort arcs at k at x pending order same
   where
     there : (j : ℕ) → j < length arcs → place_of order (tail_of arcs j) ≡ at → waits (place_of order (tail_of arcs j)) at k j ≡ waits (place_of order (tail_of arcs j)) at x j
     there j lt e =
         let p = place_of order (tail_of arcs j) in
         let own : tail_of arcs j ≡ get_or order at 0 = sym (at_place order (tail_of arcs j) (omega arith)) ∙ ap (λ (n : ℕ). get_or order n 0) e in
         elim (cases_lt j k) [
-          | inl h ↦ there_done p at k j e h ∙ sym (there_done p at x j e (elim (cases_lt x (length arcs)) [
-            | inl l ↦ let (ge, _) = lowest.out l in omega arith
-            | inr g ↦ omega arith
-          ]))
-          | inr h ↦ there_waits p at k j e h ∙ sym (there_waits p at x j e (lowest.least j h lt own))
+          | inl h ↦ there_done p at k j e h ∙ sym (there_done p at x j e (omega arith))
+          | inr h ↦ there_waits p at k j e h ∙ sym (there_waits p at x j e (least j h lt own))
         ]
 
     same : (j : ℕ) → j < length arcs → waits (place_of order (tail_of arcs j)) at k j ≡ waits (place_of order (tail_of arcs j)) at x j
@@ -262,9 +258,46 @@ module _ (arcs : List Arc) (at i : ℕ) (pending order : List ℕ) (joined : Joi
         full = more ∙ (let f = S.full in let z = zero_now in omega arith) ∙ ap (zeros (set pending head 0)) (sym long);
       }
 
--- no more nets are placed than there are
+-- the nets that no waiting arc leads into: no more than there are, also of those from k on
+
+pub zeros_within : (pending : List ℕ) (k : ℕ) → zeros pending k ≤ k
+zeros_within pending k = count_within (λ n. eqb (get_or pending n 0) 0) k
+
+up_one : (pending : List ℕ) (k : ℕ) → zeros pending (k + 1) ≡ one_if (eqb (get_or pending k 0) 0) + zeros pending k
+up_one pending k = let e : k + 1 ≡ suc k = omega arith in ap (zeros pending) e
+
+pub one_zero : (pending : List ℕ) (k : ℕ) → get_or pending k 0 ≡ 0 → zeros pending (k + 1) ≡ zeros pending k + 1
+one_zero pending k is = let up = up_one pending k in let one : one_if (eqb (get_or pending k 0) 0) ≡ 1 = ap one_if (eq-eqb (get_or pending k 0) 0 is) in omega arith
+
+pub no_zero : (pending : List ℕ) (k : ℕ) → 0 < get_or pending k 0 → zeros pending (k + 1) ≡ zeros pending k
+no_zero pending k pos = let up = up_one pending k in let none : one_if (eqb (get_or pending k 0) 0) ≡ 0 = ap one_if (ne_eqb (get_or pending k 0) 0 (λ e. absurd (omega arith))) in omega arith
+
+pub zeros_rest : (pending : List ℕ) (k n : ℕ) → k ≤ n → zeros pending n + k ≤ zeros pending k + n
+zeros_rest pending k n le = subst (λ m. zeros pending m + k ≤ zeros pending k + m) (omega arith) (from_k (n - k))
+  where
+    from_k : (m : ℕ) → zeros pending (k + m) + k ≤ zeros pending k + (k + m)
+    from_k zero = let e : k + 0 ≡ k = omega arith in let same = ap (zeros pending) e in omega arith
+    from_k (suc m) =
+        let e : k + suc m ≡ (k + m) + 1 = omega arith in
+        let same = ap (zeros pending) e in
+        let before = from_k m in
+        elim (cases_lt 0 (get_or pending (k + m) 0)) [
+          | inl pos ↦ let up = no_zero pending (k + m) pos in omega arith
+          | inr none ↦ let up = one_zero pending (k + m) (omega arith) in omega arith
+        ]
+
 pub placed_within : (arcs : List Arc) (at i : ℕ) (pending order : List ℕ) → Sorting arcs at i pending order → length order ≤ length pending
-placed_within arcs at i pending order S = let full = S.full in let few = count_within (λ n. eqb (get_or pending n 0) 0) (length pending) in omega arith
+placed_within arcs at i pending order S = let full = S.full in let few = zeros_within pending (length pending) in omega arith
+
+-- the counts of the first nets alone
+pub counted_front : (arcs : List Arc) (k n : ℕ) (pending : List ℕ) → n ≤ length pending → Counted arcs k pending → Counted arcs k (take n pending)
+counted_front arcs k n pending le counted h lt =
+    let long = length-take-le n pending le in
+    get_or-take n pending h 0 (omega arith) ∙ counted h (omega arith)
+
+-- no more arcs into a net are counted than there are
+pub counted_within : (arcs : List Arc) (k : ℕ) (pending : List ℕ) (h : ℕ) → h < length pending → Counted arcs k pending → get_or pending h 0 ≤ k
+counted_within arcs k pending h lt counted = let is = counted h lt in let few = count_within (λ j. eqb (head_of arcs j) h) k in omega arith
 
 -- one more arc is counted at its head
 pub counted_more : (arcs : List Arc) (k : ℕ) (pending : List ℕ) → head_of arcs k < length pending → Counted arcs k pending → Counted arcs (k + 1) (set pending (head_of arcs k) (get_or pending (head_of arcs k) 0 + 1))
@@ -279,12 +312,6 @@ counted_more arcs k pending inside counted h lt =
 
 -- the nets that no arc leads into
 
-pub no_sources : (pending : List ℕ) → SourcesPlaced pending 0 []
-no_sources pending = record { numbers = λ k h. absurd (omega arith); once = λ k h. absurd (omega arith); placed = λ n h. absurd (omega arith); unplaced = λ n _. omega arith; full = refl }
-
-up_one : (pending : List ℕ) (k : ℕ) → zeros pending (k + 1) ≡ one_if (eqb (get_or pending k 0) 0) + zeros pending k
-up_one pending k = let e : k + 1 ≡ suc k = omega arith in ap (zeros pending) e
-
 pub source_skipped : (pending : List ℕ) (k : ℕ) (order : List ℕ) → 0 < get_or pending k 0 → SourcesPlaced pending k order → SourcesPlaced pending (k + 1) order
 source_skipped pending k order pos P = record {
   numbers = λ n h. let lt = P.numbers n h in omega arith;
@@ -294,7 +321,7 @@ source_skipped pending k order pos P = record {
     | no q ↦ P.placed n (omega arith) e
   ];
   unplaced = P.unplaced;
-  full = let up = up_one pending k in let none : one_if (eqb (get_or pending k 0) 0) ≡ 0 = ap one_if (ne_eqb (get_or pending k 0) 0 (λ e. absurd (omega arith))) in let f = P.full in omega arith;
+  full = let up = no_zero pending k pos in let f = P.full in omega arith;
 }
 
 pub source_placed : (pending : List ℕ) (k : ℕ) (order : List ℕ) → get_or pending k 0 ≡ 0 → SourcesPlaced pending k order → SourcesPlaced pending (k + 1) (order ++ k ∷ [])
@@ -312,7 +339,7 @@ source_placed pending k order is P =
           let other : k ≢ n = λ q. let same = ap (λ (m : ℕ). get_or pending m 0) q in absurd (omega arith) in
           let e = place_other order k n other (P.unplaced n pos) in
           omega arith;
-      full = let up = up_one pending k in let one : one_if (eqb (get_or pending k 0) 0) ≡ 1 = ap one_if (eq-eqb (get_or pending k 0) 0 is) in let f = P.full in omega arith;
+      full = let up = one_zero pending k is in let f = P.full in omega arith;
     }
 
 -- before any arc is counted off, all wait
@@ -359,10 +386,6 @@ module _ (arcs : List Arc) (at : ℕ) (pending order : List ℕ) (S : Sorting ar
           let p = S.placed n lt (S.counted n lt ∙ none) in
           omega arith
 
-  pub lowest_left : (o : Option ℕ) → LowestPending pending o → LowestUnplaced (length pending) order o
-  lowest_left None zero = λ n lt. S.placed n lt (zero n lt)
-  lowest_left (Some n) (lt, pos, below) = (lt, S.unplaced n pos, λ k h. S.placed k (omega arith) (below k h))
-
   pub all_placed : (o : Option ℕ) → LowestPending pending o → o ≡ None → length order ≡ length pending
-  all_placed None zero e = S.full ∙ count_all (λ n. eqb (get_or pending n 0) 0) (length pending) (λ n lt. eq-eqb (get_or pending n 0) 0 (zero n lt))
+  all_placed None none e = S.full ∙ count_all (λ n. eqb (get_or pending n 0) 0) (length pending) (λ n lt. eq-eqb (get_or pending n 0) 0 (none n lt))
   all_placed (Some n) low e = let z : ◌≡◌ {A = ℕ} 0 1 = cc in absurd (omega arith)

@@ -1,5 +1,5 @@
 -- What a draft holds, and what each of its calls answers and leaves. Assumes nothing.
-use Rattle.std.specs.Prelude.{◌≡◌, ℕ, List, [], ◌∷◌, ◌++◌, length, Some, None, Ok, Err, vec_items, Result, nat_le, nat_lt, slice_index_or, slice_set}
+use Rattle.std.specs.Prelude.{◌≡◌, ℕ, List, [], ◌∷◌, ◌++◌, length, Some, None, Ok, Err, Result, nat_le, nat_lt, slice_index_or, slice_set}
 use Rattle.units.specs.Refusals.{Row, Outcome}
 use Rattle.paths.specs.declared.blocks.Net.{Net}
 use Rattle.paths.specs.Blocks.{Block, no_net, max_nets, max_arcs, last_kind}
@@ -10,10 +10,11 @@ use Rattle.network.specs.declared.draft.Side.{Side}
 use Rattle.network.specs.declared.draft.Side.TheVariants.{Late, Early}
 use Rattle.network.specs.Faults.{row, refusal_of, draft_refusal}
 use Rattle.network.specs.Figures.{launch_rows, limit_rows}
+use Rattle.network.specs.Netlists.{netlist_block}
 
 -- the block that a draft holds
 abbrev pub draft_block : Draft → Block
-draft_block d = record { nets = vec_items d.nets; arcs = vec_items d.arcs }
+draft_block d = netlist_block d.netlist
 
 abbrev pub empty_block : Block
 empty_block = record { nets = []; arcs = [] }

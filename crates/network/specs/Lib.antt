@@ -1,7 +1,7 @@
-pub mod ArcLists
 pub mod Calls
+pub mod FanOuts
 pub mod Faults
 pub mod Figures
-pub mod Orders
+pub mod Netlists
 pub mod Settling
 pub mod Sorting

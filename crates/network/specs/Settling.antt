@@ -1,15 +1,16 @@
 -- What settling makes of a draft. Assumes nothing.
-use Rattle.std.specs.Prelude.{◌≡◌, length, None, vec_items}
+use Rattle.std.specs.Prelude.{◌≡◌, length, None}
 use Rattle.paths.specs.Blocks.{Block}
 use Rattle.paths.specs.Cycles.{CycleAt, LeftIsReachable}
 use Rattle.paths.specs.Orders.{Numbers, Once, TailsFirst, TopologicalOrder}
 use Rattle.network.specs.declared.settled.Network.{Network}
-use Rattle.network.specs.ArcLists.{FirstsOut, NextsOut}
+use Rattle.network.specs.FanOuts.{FansOut}
+use Rattle.network.specs.Netlists.{netlist_block}
 use Rattle.network.specs.Sorting.{placed_nets}
 
 -- the block that a settled network holds
 abbrev pub network_block : Network → Block
-network_block n = record { nets = vec_items n.nets; arcs = vec_items n.arcs }
+network_block n = netlist_block n.netlist
 
 pub record Settled (b : Block) (n : Network) : Type 0 where
   -- the same nets, launches, limits, arcs and kinds
@@ -25,5 +26,4 @@ pub record Settled (b : Block) (n : Network) : Type 0 where
   -- so without a cycle it holds all nets; which of several topological orders it is, is free
   pub topological : n.cycle ≡ None → TopologicalOrder (length b.nets) b.arcs (placed_nets n.order)
   -- the arcs out of each net
-  pub firsts : FirstsOut b.arcs n.fan_out.first
-  pub nexts : NextsOut b.arcs n.fan_out.next
+  pub fans : FansOut b.arcs n.fan_out

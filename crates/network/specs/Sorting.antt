@@ -1,16 +1,12 @@
 -- What sorting the nets keeps: how many arcs into each net wait, and which nets are placed. Assumes nothing.
-use Rattle.std.specs.Prelude.{◌≡◌, ℕ, zero, suc, ◌+◌, ◌<◌, ◌≤◌, Bool, true, false, cond, ◌&&◌, List, length, take, Some, None, Option, ◌==◌, nat_eq, nat_le, nat_lt, slice_index}
+use Rattle.std.specs.Prelude.{◌≡◌, ℕ, zero, suc, ◌+◌, ◌<◌, Bool, true, false, cond, ◌&&◌, List, length, take, Some, None, Option, ◌==◌, nat_eq, nat_le, nat_lt, slice_index}
 use Rattle.paths.specs.declared.blocks.Arc.{Arc}
-use Rattle.paths.specs.Blocks.{max_nets, tail_of, head_of}
+use Rattle.paths.specs.Blocks.{tail_of, head_of}
 use Rattle.paths.specs.Orders.{place_of, Placed, Unplaced, Numbers, Once, TailsFirst}
 use Rattle.network.specs.declared.order.Order.{Order}
 
 abbrev pub placed_nets : Order → List ℕ
-placed_nets o = take o.placed o.nets
-
--- as many stand there as it counts
-abbrev pub Filled : Order → Type 0
-Filled o = (o.placed ≤ max_nets) × (length (placed_nets o) ≡ o.placed)
+placed_nets o = take o.placed o.nets.items
 
 abbrev pub one_if : Bool → ℕ
 one_if true = 1

@@ -1,8 +1,8 @@
 // The draft of a block, which is built net by net and arc by arc.
-ghost use Rattle.std.specs.Prelude.{◌≤◌, length, vec_capacity};
-ghost use Rattle.paths.specs.Blocks.{max_nets, max_arcs, Joined, KindsFit, TimesFit, TransitionsFit, LateLimitsFit, EarlyLimitsFit};
+ghost use Rattle.std.specs.Prelude.{◌≤◌, vec_capacity};
+ghost use Rattle.paths.specs.Blocks.{max_nets, max_arcs};
 
-use paths::blocks::{Arc, Net};
+use crate::netlist::Netlist;
 
 mod building;
 pub mod figures;
@@ -18,14 +18,6 @@ pub enum Side {
 // All the room that a draft may need is reserved when it is made.
 #[derive(Drop)]
 pub struct Draft {
-    nets: Vec<Net>,
-    arcs: Vec<Arc>,
-    ghost room: { (max_nets ≤ vec_capacity nets) × (max_arcs ≤ vec_capacity arcs) },
-    ghost few: { (length nets.items ≤ max_nets) × (length arcs.items ≤ max_arcs) },
-    ghost joined: { Joined (length nets.items) arcs.items },
-    ghost kinds: { KindsFit arcs.items },
-    ghost times: { TimesFit nets.items },
-    ghost transitions: { TransitionsFit nets.items },
-    ghost lates: { LateLimitsFit nets.items },
-    ghost earlies: { EarlyLimitsFit nets.items },
+    netlist: Netlist,
+    ghost room: { (max_nets ≤ vec_capacity netlist.nets) × (max_arcs ≤ vec_capacity netlist.arcs) },
 }

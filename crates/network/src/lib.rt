@@ -4,6 +4,7 @@
 pub mod draft;
 pub mod fan_out;
 pub mod faults;
+pub mod netlist;
 pub mod order;
 mod ordering;
 pub mod settled;

@@ -1,40 +1,27 @@
-// A list of nets that is filled one by one, with room for all nets of a block.
-ghost use Rattle.std.specs.Prelude.{◌≡◌, ℕ, ◌<◌, ◌≤◌, [], ◌∷◌, ◌++◌};
-ghost use Rattle.paths.specs.Blocks.{max_nets};
-ghost use Rattle.network.specs.Orders.{NetNumbers};
-ghost use Rattle.network.specs.Sorting.{placed_nets, Filled};
+// The nets of a block in order.
+ghost use Rattle.std.specs.Prelude.{◌≡◌, ◌≤◌, length, take};
 
+use arrayvec::ArrayVec;
 use paths::blocks::MAX_NETS;
 
-// The first `placed` entries are nets; the others are not used.
-#[derive(Clone, Copy)]
+// First the nets that are placed, each after the tails of all arcs into it; then the others, in rising number.
+#[derive(Drop)]
 pub struct Order {
-    pub(crate) nets: [u16; MAX_NETS],
+    pub(crate) nets: ArrayVec<u16, MAX_NETS>,
     pub(crate) placed: usize,
+    ghost within: { placed ≤ length nets.items },
 }
 
 impl Order {
-    pub(crate) fn new() -> Order
-        ensures nets { placed_nets result ≡ [] }
-        ensures filled { Filled result }
-        ensures numbers { (nets : ℕ) → NetNumbers nets result.nets }
+    pub(crate) fn nets(&self) -> &[u16]
+        ensures { result.now ≡ self.now.nets.items }
     {
-        Order {
-            nets: [0; MAX_NETS],
-            placed: 0,
-        }
+        &self.nets
     }
 
-    // Places a net after those placed.
-    pub(crate) fn place(&mut self, net: u16)
-        requires room { self.old.placed < max_nets }
-        requires filled { Filled self.old }
-        ensures nets { placed_nets self.new ≡ placed_nets self.old ++ net ∷ [] }
-        ensures filled { Filled self.new }
-        ensures within { self.old.placed ≤ max_nets → self.new.placed ≤ max_nets }
-        ensures numbers { (nets : ℕ) → net < nets → NetNumbers nets self.old.nets → NetNumbers nets self.new.nets }
+    pub(crate) fn placed(&self) -> &[u16]
+        ensures { result.now ≡ take self.now.placed self.now.nets.items }
     {
-        self.nets[self.placed] = net;
-        self.placed += 1;
+        &self.nets[..self.placed]
     }
 }

@@ -1,72 +1,110 @@
 // A topological order of the nets: each arc's tail stands before its head.
-ghost use Rattle.std.specs.Prelude.{◌≡◌, ◌+◌, ◌<◌, ◌≤◌, length, None};
-ghost use Rattle.paths.specs.Blocks.{max_nets, max_arcs, Joined};
+ghost use Rattle.std.specs.Prelude.{◌≡◌, ◌+◌, ◌<◌, ◌≤◌, length, take, None};
+ghost use Rattle.paths.specs.Blocks.{max_nets};
 ghost use Rattle.paths.specs.Cycles.{TakenOff};
-ghost use Rattle.paths.specs.Orders.{LowestUnplaced};
-ghost use Rattle.network.specs.ArcLists.{FirstsOut, NextsOut};
-ghost use Rattle.network.specs.Orders.{NetNumbers, AllZero};
-ghost use Rattle.network.specs.Sorting.{placed_nets, Filled, Counted, SourcesPlaced, Sorting, LowestPending};
+ghost use Rattle.paths.specs.Orders.{Numbers, LowestUnplaced};
+ghost use Rattle.network.specs.FanOuts.{FansOut};
+ghost use Rattle.network.specs.Sorting.{placed_nets, zeros, Counted, SourcesPlaced, Sorting, LowestPending};
 
 use crate::fan_out::FanOut;
+use crate::netlist::Netlist;
 use crate::order::Order;
-use paths::blocks::{Arc, MAX_NETS};
+use arrayvec::ArrayVec;
+use paths::blocks::MAX_NETS;
 
-// Counts the arcs into each net.
-fn count_arcs_in(arcs: &[Arc], pending: &mut [u16])
-    requires few { length arcs.now ≤ max_arcs }
-    requires joined { Joined (length pending.old) arcs.now }
-    requires zero { AllZero pending.old }
-    ensures { Counted arcs.now (length arcs.now) pending.new }
-{
-    for arc in arcs {
-        pending[arc.head as usize] += 1;
+impl Netlist {
+    // The nets in topological order, and the lowest that has no place in it: the lowest on a cycle or reachable from one.
+    pub(crate) fn topological_order(&self, fan_out: &FanOut) -> (Order, Option<u16>)
+        requires { FansOut self.now.arcs.items fan_out.now }
+        ensures long { length result.0.nets.items ≡ length self.now.nets.items }
+        ensures numbers { Numbers (length self.now.nets.items) result.0.nets.items }
+        ensures off { TakenOff (length self.now.nets.items) self.now.arcs.items (placed_nets result.0) }
+        ensures lowest { LowestUnplaced (length self.now.nets.items) (placed_nets result.0) result.1 }
+        ensures all_placed { result.1 ≡ None → result.0.placed ≡ length self.now.nets.items }
+    {
+        let mut counts = self.arcs_in();
+        let pending = &mut counts[..self.nets.len()];
+        let mut order = sources(pending);
+        let mut at = 0;
+        // The order grows while the loop goes along it.
+        while at < order.len() {
+            self.release_heads(fan_out, at, pending, &mut order);
+            at += 1;
+        }
+        let placed = order.len();
+        append_unplaced(pending, &mut order);
+        let order = Order {
+            nets: order,
+            placed,
+        };
+        (order, lowest_unplaced(pending))
+    }
+
+    // Counts the arcs into each net.
+    fn arcs_in(&self) -> [u16; MAX_NETS]
+        ensures { Counted self.now.arcs.items (length self.now.arcs.items) result }
+    {
+        let mut counts = [0; MAX_NETS];
+        for arc in self.arcs() {
+            counts[usize::from(arc.head)] += 1;
+        }
+        counts
+    }
+
+    // Counts the arcs out of the net at a place off at their heads, and places each head that waits for no more.
+    fn release_heads(
+        &self,
+        fan_out: &FanOut,
+        at: usize,
+        pending: &mut [u16],
+        order: &mut ArrayVec<u16, MAX_NETS>,
+    )
+        requires fans { FansOut self.now.arcs.items fan_out.now }
+        requires nets { length pending.old ≡ length self.now.nets.items }
+        requires at { at < length order.old.items }
+        requires sorting { Sorting self.now.arcs.items at 0 pending.old order.old.items }
+        ensures at { at < length order.new.items }
+        ensures sorting { Sorting self.now.arcs.items (at + 1) 0 pending.new order.new.items }
+    {
+        let net = order[at];
+        for &i in fan_out.arcs_out(net) {
+            let head = self.arcs[usize::from(i)].head;
+            let count = &mut pending[usize::from(head)];
+            *count -= 1;
+            if *count == 0 {
+                order.push(head);
+            }
+        }
     }
 }
 
-// Places the nets that no arc leads into, in rising number.
-fn place_sources(pending: &[u16]) -> Order
+// The nets that no arc leads into, in rising number.
+fn sources(pending: &[u16]) -> ArrayVec<u16, MAX_NETS>
     requires { length pending.now ≤ max_nets }
-    ensures filled { Filled result }
-    ensures within { result.placed ≤ max_nets }
-    ensures numbers { NetNumbers (length pending.now) result.nets }
-    ensures sources { SourcesPlaced pending.now (length pending.now) (placed_nets result) }
+    ensures { SourcesPlaced pending.now (length pending.now) result.items }
 {
-    let mut order = Order::new();
-    for source in 0..pending.len() {
-        if pending[source] == 0 {
-            order.place(source as u16);
+    let mut order = ArrayVec::new();
+    for (source, &count) in pending.iter().enumerate() {
+        if count == 0 {
+            order.push(source as u16);
         }
     }
     order
 }
 
-// Counts the arcs out of the net at a place off at their heads, and places each head that waits for no more.
-fn release_heads(at: usize, arcs: &[Arc], fan_out: &FanOut, pending: &mut [u16], order: &mut Order)
-    requires at { at < order.old.placed }
-    requires filled { Filled order.old }
-    requires nets { length pending.old ≤ max_nets }
-    requires few { length arcs.now ≤ max_arcs }
-    requires joined { Joined (length pending.old) arcs.now }
-    requires firsts { FirstsOut arcs.now fan_out.now.first }
-    requires nexts { NextsOut arcs.now fan_out.now.next }
-    requires numbers { NetNumbers (length pending.old) order.old.nets }
-    requires sorting { Sorting arcs.now at 0 pending.old (placed_nets order.old) }
-    ensures at { at < order.new.placed }
-    ensures filled { Filled order.new }
-    ensures within { order.new.placed ≤ max_nets }
-    ensures numbers { NetNumbers (length pending.old) order.new.nets }
-    ensures sorting { Sorting arcs.now (at + 1) 0 pending.new (placed_nets order.new) }
+// Appends the nets that still wait for an arc into them, in rising number.
+fn append_unplaced(pending: &[u16], order: &mut ArrayVec<u16, MAX_NETS>)
+    requires few { length pending.now ≤ max_nets }
+    requires full { length order.old.items ≡ zeros pending.now (length pending.now) }
+    requires numbers { Numbers (length pending.now) order.old.items }
+    ensures front { take (length order.old.items) order.new.items ≡ order.old.items }
+    ensures long { length order.new.items ≡ length pending.now }
+    ensures numbers { Numbers (length pending.now) order.new.items }
 {
-    let net = order.nets[at];
-    let mut i = fan_out.first[net as usize];
-    while (i as usize) < arcs.len() {
-        let head = arcs[i as usize].head;
-        let left = pending[head as usize] - 1;
-        pending[head as usize] = left;
-        if left == 0 {
-            order.place(head);
+    for (net, &waiting) in pending.iter().enumerate() {
+        if waiting > 0 {
+            order.push(net as u16);
         }
-        i = fan_out.next[i as usize];
     }
 }
 
@@ -75,55 +113,8 @@ fn lowest_unplaced(pending: &[u16]) -> Option<u16>
     requires { length pending.now ≤ max_nets }
     ensures { LowestPending pending.now result }
 {
-    for net in 0..pending.len() {
-        if pending[net] > 0 {
-            return Some(net as u16);
-        }
-    }
-    None
-}
-
-// Places the nets one after the other, with a count of waiting arcs for each.
-fn sort(arcs: &[Arc], fan_out: &FanOut, pending: &mut [u16]) -> (Order, Option<u16>)
-    requires nets { length pending.old ≤ max_nets }
-    requires few { length arcs.now ≤ max_arcs }
-    requires joined { Joined (length pending.old) arcs.now }
-    requires firsts { FirstsOut arcs.now fan_out.now.first }
-    requires nexts { NextsOut arcs.now fan_out.now.next }
-    requires zero { AllZero pending.old }
-    ensures filled { Filled result.0 }
-    ensures numbers { NetNumbers (length pending.old) result.0.nets }
-    ensures off { TakenOff (length pending.old) arcs.now (placed_nets result.0) }
-    ensures lowest { LowestUnplaced (length pending.old) (placed_nets result.0) result.1 }
-    ensures long { result.1 ≡ None → length (placed_nets result.0) ≡ length pending.old }
-{
-    count_arcs_in(arcs, pending);
-    let mut order = place_sources(pending);
-    let mut at = 0;
-    while at < order.placed {
-        release_heads(at, arcs, fan_out, pending, &mut order);
-        at += 1;
-    }
-    (order, lowest_unplaced(pending))
-}
-
-// The nets in topological order, and the lowest that has no place in it: the lowest on a cycle or reachable from one.
-pub(crate) fn topological_order(
-    count: usize,
-    arcs: &[Arc],
-    fan_out: &FanOut,
-) -> (Order, Option<u16>)
-    requires nets { count ≤ max_nets }
-    requires few { length arcs.now ≤ max_arcs }
-    requires joined { Joined count arcs.now }
-    requires firsts { FirstsOut arcs.now fan_out.now.first }
-    requires nexts { NextsOut arcs.now fan_out.now.next }
-    ensures filled { Filled result.0 }
-    ensures numbers { NetNumbers count result.0.nets }
-    ensures off { TakenOff count arcs.now (placed_nets result.0) }
-    ensures lowest { LowestUnplaced count (placed_nets result.0) result.1 }
-    ensures long { result.1 ≡ None → length (placed_nets result.0) ≡ count }
-{
-    let mut pending = [0; MAX_NETS];
-    sort(arcs, fan_out, &mut pending[..count])
+    pending
+        .iter()
+        .position(|&count| count > 0)
+        .map(|net| net as u16)
 }

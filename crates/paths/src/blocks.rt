@@ -25,7 +25,8 @@ pub struct Launch {
     pub transition: u16,
 }
 
-#[derive(Clone, Copy, PartialEq, Eq, Debug)]
+// What stands at a net; by default neither a launch nor a limit.
+#[derive(Clone, Copy, PartialEq, Eq, Debug, Default)]
 pub struct Net {
     pub launch: Option<Launch>,
     pub late_limit: Option<u32>,

@@ -5,7 +5,6 @@ ghost use Rattle.network.specs.Settling.{Settled};
 use super::Draft;
 use crate::fan_out::FanOut;
 use crate::faults::DraftFault;
-use crate::ordering::topological_order;
 use crate::settled::Network;
 
 impl Draft {
@@ -13,8 +12,8 @@ impl Draft {
     pub fn check(&self) -> Result<(), DraftFault>
         ensures { Checked (draft_block self.now) result }
     {
-        let fan_out = FanOut::of(&self.arcs);
-        let (_, cycle) = topological_order(self.nets.len(), &self.arcs, &fan_out);
+        let fan_out = FanOut::of(self.netlist.arcs());
+        let (_, cycle) = self.netlist.topological_order(&fan_out);
         match cycle {
             Some(net) => Err(DraftFault::Cycle(net)),
             None => Ok(()),
@@ -25,12 +24,11 @@ impl Draft {
     pub fn settle(self) -> Network
         ensures { Settled (draft_block self) result }
     {
-        let Draft { nets, arcs } = self;
-        let fan_out = FanOut::of(&arcs);
-        let (order, cycle) = topological_order(nets.len(), &arcs, &fan_out);
+        let Draft { netlist } = self;
+        let fan_out = FanOut::of(netlist.arcs());
+        let (order, cycle) = netlist.topological_order(&fan_out);
         Network {
-            nets,
-            arcs,
+            netlist,
             order,
             cycle,
             fan_out,

@@ -1,0 +1,34 @@
+use Rattle.std.proofs.Common.{◌≡◌, ◌≤◌, length, take, sym, ap, ◌∙◌, subst, arith, rules, length-take-le}
+use Rattle.paths.specs.Blocks.{Joined}
+use Rattle.paths.specs.Cycles.{TakenOff}
+use Rattle.network.proofs.SortingSteps.{counted_front, placed_within, sorting_begins, taken_off, all_placed}
+use Rattle.network.proofs.netlist.Netlist.topological_order.Goals as goal
+
+pub loop-at-init : goal.loop-at-init
+loop-at-init c =
+    let n = c.args.self.now in
+    let front : c.len.result ≤ length c.arcs_in-counts.result = search rules in
+    let count : length (take c.len.result c.arcs_in-counts.result) ≡ length n.nets.items = length-take-le _ _ front ∙ c.len.ensures ∙ n.nets.ok.0 in
+    record {
+      within = omega arith;
+      count = count;
+      sorting = sorting_begins n.arcs.items _ _ (subst (λ m. Joined m n.arcs.items) (sym count) n.joined) (counted_front _ _ _ _ front c.arcs_in-counts.ensures) c.sources-order.ensures;
+    }
+
+pub loop-at-smaller : goal.loop-at-smaller
+loop-at-smaller c =
+    let within = placed_within _ _ _ _ _ c.loop-at.invariant.sorting in
+    omega (arith, c.loop-at.invariant.count, c.loop-at-test.true, c.len-in-loop-at.ensures.value)
+
+pub returns-clause-off : goal.returns-clause-off
+returns-clause-off c =
+    let arcs = c.args.self.now.arcs.items in
+    let order = c.loop-at.order.items in
+    let end : length order ≤ c.loop-at.at = omega (arith, c.len-in-loop-at.ensures.value) in
+    let placed : take c.len-placed.result c.append_unplaced.new.order.items ≡ order = ap (λ k. take k c.append_unplaced.new.order.items) c.len-placed.ensures.value ∙ c.append_unplaced.ensures.front in
+    subst (TakenOff _ arcs) (sym placed) (subst (λ n. TakenOff n arcs order) c.loop-at.invariant.count (taken_off arcs _ _ order c.loop-at.invariant.sorting end))
+
+pub returns-clause-all_placed : goal.returns-clause-all_placed
+returns-clause-all_placed c = λ none.
+    let end : length c.loop-at.order.items ≤ c.loop-at.at = omega (arith, c.len-in-loop-at.ensures.value) in
+    c.len-placed.ensures.value ∙ all_placed _ _ _ _ c.loop-at.invariant.sorting end _ c.lowest_unplaced.ensures none ∙ c.loop-at.invariant.count
