@@ -17,13 +17,11 @@ use paths::blocks::{MAX_NETS, Net};
 
 // Tests the figures of a net in the order of its record.
 fn test_figures(net: &Net) -> Result<(), DraftFault> {
-    if let Some(launch) = net.launch {
-        test_launch(launch.time, launch.transition)?;
-    }
-    [net.late_limit, net.early_limit]
-        .into_iter()
-        .flatten()
-        .try_for_each(test_limit)
+    net.launch.map_or(Ok(()), |launch| {
+        test_launch(launch.time, launch.transition)
+    })?;
+    net.late_limit.map_or(Ok(()), test_limit)?;
+    net.early_limit.map_or(Ok(()), test_limit)
 }
 
 // Adds a net with its launch and limits, whole or not at all: after these tests none of the draft's calls refuses.
@@ -36,10 +34,11 @@ fn add_net(draft: &mut Draft, net: Net) -> Result<(), DraftFault> {
     if let Some(launch) = net.launch {
         draft.launch(number, launch.time, launch.transition)?;
     }
-    for (side, limit) in [(Side::Late, net.late_limit), (Side::Early, net.early_limit)] {
-        if let Some(value) = limit {
-            draft.limit(number, side, value)?;
-        }
+    if let Some(value) = net.late_limit {
+        draft.limit(number, Side::Late, value)?;
+    }
+    if let Some(value) = net.early_limit {
+        draft.limit(number, Side::Early, value)?;
     }
     Ok(())
 }
@@ -49,11 +48,11 @@ fn add_kind(model: &mut Points, bytes: &[u8]) -> Result<u8, ModelFault>
     requires { length bytes.now ≤ point_len * map_bits }
 {
     let (chunks, _) = bytes.as_chunks();
-    let mut points: ArrayVec<Point, MAP_BITS> = ArrayVec::new();
+    let mut points = ArrayVec::<Point, MAP_BITS>::new();
     for chunk in chunks {
         points.push(point_of(chunk));
     }
-    model.add(points.as_slice())
+    model.add(&points)
 }
 
 // Adds what a record says to the draft or the model, whole or not at all.

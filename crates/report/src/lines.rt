@@ -1,7 +1,10 @@
 // The lines of a report.
+ghost use Rattle.std.specs.Prelude.{Some};
+ghost use Rattle.report.specs.Lines.{fault_line, slack_text, arcs_text, sense_line, net_line, net_lines, timed_lines};
+
 use crate::areas::Timed;
 use std::fmt;
-use timing::answers::NONE;
+use timing::answers::{Answer, NONE};
 use units::refusals::Refusal;
 
 // The one line of a file that is refused.
@@ -12,11 +15,11 @@ pub struct FaultLine {
 }
 
 impl fmt::Display for FaultLine {
+    ghost output = { λ line. Some (fault_line line.offset line.refusal) };
+
     fn fmt<W: fmt::Write>(&self, f: &mut fmt::Formatter<W>) -> fmt::Result {
-        let offset = self.offset;
-        let number = self.refusal.number;
-        let place = self.refusal.place;
-        writeln!(f, "fault {offset} {number} {place}")
+        let Refusal { number, place, .. } = self.refusal;
+        writeln!(f, "fault {} {number} {place}", self.offset)
     }
 }
 
@@ -25,9 +28,11 @@ impl fmt::Display for FaultLine {
 struct Slack(i32);
 
 impl fmt::Display for Slack {
+    ghost output = { λ slack. Some (slack_text slack.0) };
+
     fn fmt<W: fmt::Write>(&self, f: &mut fmt::Formatter<W>) -> fmt::Result {
         match self.0 {
-            NONE => f.write_str("-"),
+            NONE => write!(f, "-"),
             slack => write!(f, "{slack}"),
         }
     }
@@ -38,6 +43,8 @@ impl fmt::Display for Slack {
 struct Arcs<'a>(&'a [u16]);
 
 impl fmt::Display for Arcs<'_> {
+    ghost output = { λ arcs. Some (arcs_text arcs.0.now) };
+
     fn fmt<W: fmt::Write>(&self, f: &mut fmt::Formatter<W>) -> fmt::Result {
         for arc in self.0 {
             write!(f, " {arc}")?;
@@ -54,15 +61,20 @@ struct SenseLine<'a> {
 }
 
 impl fmt::Display for SenseLine<'_> {
+    ghost output = { λ line. Some (sense_line line.sense.now line.timed.now) };
+
     fn fmt<W: fmt::Write>(&self, f: &mut fmt::Formatter<W>) -> fmt::Result {
         let sense = self.sense;
-        let slack = self.timed.answer.worst_slack;
-        if slack == NONE {
+        let Answer {
+            worst_slack,
+            arcs,
+            ..
+        } = self.timed.answer;
+        if worst_slack == NONE {
             return writeln!(f, "{sense} none");
         }
-        let count = self.timed.answer.arcs;
-        let arcs = Arcs(&self.timed.path);
-        writeln!(f, "{sense} {slack} {count}{arcs}")
+        let path = Arcs(&self.timed.path);
+        writeln!(f, "{sense} {worst_slack} {arcs}{path}")
     }
 }
 
@@ -75,11 +87,33 @@ struct NetLine {
 }
 
 impl fmt::Display for NetLine {
+    ghost output = { λ line. Some (net_line line.net line.late.0 line.early.0) };
+
     fn fmt<W: fmt::Write>(&self, f: &mut fmt::Formatter<W>) -> fmt::Result {
-        let net = self.net;
-        let late = self.late;
-        let early = self.early;
-        writeln!(f, "net {net} {late} {early}")
+        writeln!(f, "net {} {} {}", self.net, self.late, self.early)
+    }
+}
+
+// The nets by number, each with its slacks.
+#[derive(Clone, Copy)]
+struct NetLines<'a> {
+    late: &'a [i32],
+    early: &'a [i32],
+}
+
+impl fmt::Display for NetLines<'_> {
+    ghost output = { λ lines. Some (net_lines lines.late.now lines.early.now) };
+
+    fn fmt<W: fmt::Write>(&self, f: &mut fmt::Formatter<W>) -> fmt::Result {
+        for (net, (late, early)) in self.late.iter().zip(self.early.iter()).enumerate() {
+            let line = NetLine {
+                net,
+                late: Slack(*late),
+                early: Slack(*early),
+            };
+            write!(f, "{line}")?;
+        }
+        Ok(())
     }
 }
 
@@ -91,6 +125,8 @@ pub struct TimedBlock {
 }
 
 impl fmt::Display for TimedBlock {
+    ghost output = { λ block. Some (timed_lines block) };
+
     fn fmt<W: fmt::Write>(&self, f: &mut fmt::Formatter<W>) -> fmt::Result {
         let late = SenseLine {
             sense: "late",
@@ -100,16 +136,10 @@ impl fmt::Display for TimedBlock {
             sense: "early",
             timed: &self.early,
         };
-        write!(f, "{late}{early}")?;
-        let slacks = self.late.slacks.iter().zip(self.early.slacks.iter());
-        for (net, (late, early)) in slacks.enumerate() {
-            let line = NetLine {
-                net,
-                late: Slack(*late),
-                early: Slack(*early),
-            };
-            write!(f, "{line}")?;
-        }
-        Ok(())
+        let nets = NetLines {
+            late: &self.late.slacks,
+            early: &self.early.slacks,
+        };
+        write!(f, "{late}{early}{nets}")
     }
 }

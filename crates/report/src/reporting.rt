@@ -1,4 +1,7 @@
 // From a block file to its report.
+ghost use Rattle.std.specs.Prelude.{IfOk, string_bytes};
+ghost use Rattle.report.specs.Lines.{IsReport};
+
 use crate::areas::time_block;
 use crate::errors::TimingError;
 use crate::lines::{FaultLine, TimedBlock};
@@ -24,7 +27,9 @@ fn time_file(heap: Global, file: &[u8]) -> Result<TimedBlock, TimingError> {
 }
 
 // The report of a block file. A refusal of the block stands at the end of the file.
-pub fn report(heap: Global, file: &[u8]) -> Result<String, AllocError> {
+pub fn report(heap: Global, file: &[u8]) -> Result<String, AllocError>
+    ensures { IfOk result (λ text. IsReport (string_bytes text)) }
+{
     let (offset, refusal) = match time_file(heap, file) {
         Ok(timed) => return timed.to_string(heap),
         Err(TimingError::OutOfMemory(error)) => return Err(error),
