@@ -1,62 +1,87 @@
-// The values in the fields of a record. An absent field is 0.
-ghost use Rattle.std.specs.Prelude.{◌<◌};
-ghost use Rattle.blockfile.specs.Parts.{map_bits};
+// The fields that a record may have, and their values. An absent field has none.
+ghost use Rattle.std.specs.Prelude.{◌≡◌, ◌%◌, ◌/◌, ◌^◌, ◌<◌, ◌==◌};
+ghost use Rattle.blockfile.specs.Parts.{field_len};
 
 use crate::records::POINT_LEN;
 use models::point::Point;
 use paths::blocks::{Launch, Net};
 
-// The byte at a place, 0 past the end.
-fn byte_at(part: &[u8], i: usize) -> u8 {
-    if i < part.len() { part[i] } else { 0 }
+// A field of a fixed length, and the number of the bit that announces it.
+#[derive(Clone, Copy)]
+pub struct Field {
+    bit: u32,
+    len: usize,
 }
 
-pub fn u8_of(part: &[u8]) -> u8 {
-    byte_at(part, 0)
+// The fields of a net, and the bits that they have.
+pub const LAUNCH: Field = Field { bit: 0, len: 4 };
+
+pub const TRANSITION: Field = Field { bit: 1, len: 2 };
+
+pub const LATE_LIMIT: Field = Field { bit: 2, len: 4 };
+
+pub const EARLY_LIMIT: Field = Field { bit: 3, len: 4 };
+
+pub const NET_BITS: u8 = 0b1111;
+
+// The same of an arc.
+pub const TAIL: Field = Field { bit: 0, len: 2 };
+
+pub const HEAD: Field = Field { bit: 1, len: 2 };
+
+pub const KIND: Field = Field { bit: 2, len: 1 };
+
+pub const ARC_BITS: u8 = 0b111;
+
+impl Field {
+    // Whether a map announces the field.
+    pub fn is_in(self, map: u8) -> bool
+        requires { self.bit < 8 }
+        ensures { result ≡ (map / 2 ^ self.bit % 2 == 1) }
+    {
+        map >> self.bit & 1 == 1
+    }
+
+    // The bytes of the field under a map: none where it is absent.
+    pub fn len_in(self, map: u8) -> usize
+        requires { self.bit < 8 }
+        ensures { result ≡ field_len map (2 ^ self.bit) self.len }
+    {
+        if self.is_in(map) { self.len } else { 0 }
+    }
 }
 
-pub fn u16_of(part: &[u8]) -> u16 {
-    byte_at(part, 0) as u16 + 256 * byte_at(part, 1) as u16
+pub fn u8_of(field: &[u8]) -> Option<u8> {
+    field.first().copied()
 }
 
-pub fn u32_of(part: &[u8]) -> u32 {
-    let high = byte_at(part, 2) as u32 + 256 * byte_at(part, 3) as u32;
-    u16_of(part) as u32 + 65536 * high
+pub fn u16_of(field: &[u8]) -> Option<u16> {
+    field.first_chunk().map(|bytes| u16::from_le_bytes(*bytes))
+}
+
+pub fn u32_of(field: &[u8]) -> Option<u32> {
+    field.first_chunk().map(|bytes| u32::from_le_bytes(*bytes))
 }
 
 fn launch_of(time: &[u8], transition: &[u8]) -> Option<Launch> {
-    if time.is_empty() {
-        return None;
-    }
-    Some(Launch {
-        time: u32_of(time),
-        transition: u16_of(transition),
-    })
-}
-
-fn limit_of(value: &[u8]) -> Option<u32> {
-    if value.is_empty() {
-        return None;
-    }
-    Some(u32_of(value))
+    let transition = u16_of(transition).unwrap_or_default();
+    u32_of(time).map(|time| Launch { time, transition })
 }
 
 pub fn net_of(launch: &[u8], transition: &[u8], late_limit: &[u8], early_limit: &[u8]) -> Net {
     Net {
         launch: launch_of(launch, transition),
-        late_limit: limit_of(late_limit),
-        early_limit: limit_of(early_limit),
+        late_limit: u32_of(late_limit),
+        early_limit: u32_of(early_limit),
     }
 }
 
-// The point of a number: its step, its delay, low byte first, and its output step.
-pub fn point_of(points: &[u8], number: usize) -> Point
-    requires { number < map_bits }
-{
-    let at = POINT_LEN * number;
+// A point by its step, its delay, low byte first, and its output step.
+pub fn point_of(bytes: &[u8; POINT_LEN]) -> Point {
+    let [step, low, high, output_step] = *bytes;
     Point {
-        step: byte_at(points, at),
-        delay: byte_at(points, at + 1) as u16 + 256 * byte_at(points, at + 2) as u16,
-        output_step: byte_at(points, at + 3),
+        step,
+        delay: u16::from_le_bytes([low, high]),
+        output_step,
     }
 }

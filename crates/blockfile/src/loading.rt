@@ -4,8 +4,9 @@ ghost use Rattle.blockfile.specs.Parts.{map_bits, point_len, PartsFit};
 
 use crate::faults::{LoadCause, LoadFault};
 use crate::fields::{net_of, point_of, u8_of, u16_of};
-use crate::reader::next_record;
-use crate::records::{MAP_BITS, POINT_LEN, Record};
+use crate::reader::Records;
+use crate::records::{MAP_BITS, Record};
+use arrayvec::ArrayVec;
 use models::faults::ModelFault;
 use models::point::Point;
 use models::points::Points;
@@ -16,16 +17,11 @@ use paths::blocks::{MAX_NETS, Net};
 
 // Tests the figures of a net in the order of its record.
 fn test_figures(net: &Net) -> Result<(), DraftFault> {
-    if let Some(launch) = net.launch {
-        test_launch(launch.time, launch.transition)?;
-    }
-    if let Some(value) = net.late_limit {
-        test_limit(value)?;
-    }
-    if let Some(value) = net.early_limit {
-        test_limit(value)?;
-    }
-    Ok(())
+    net.launch.map_or(Ok(()), |launch| {
+        test_launch(launch.time, launch.transition)
+    })?;
+    net.late_limit.map_or(Ok(()), test_limit)?;
+    net.early_limit.map_or(Ok(()), test_limit)
 }
 
 // Adds a net with its launch and limits, whole or not at all: after these tests none of the draft's calls refuses.
@@ -51,16 +47,12 @@ fn add_net(draft: &mut Draft, net: Net) -> Result<(), DraftFault> {
 fn add_kind(model: &mut Points, bytes: &[u8]) -> Result<u8, ModelFault>
     requires { length bytes.now ≤ point_len * map_bits }
 {
-    let count = bytes.len() / POINT_LEN;
-    let mut points = [Point {
-        step: 0,
-        delay: 0,
-        output_step: 0,
-    }; MAP_BITS];
-    for i in 0..count {
-        points[i] = point_of(bytes, i);
+    let (chunks, _) = bytes.as_chunks();
+    let mut points = ArrayVec::<Point, MAP_BITS>::new();
+    for chunk in chunks {
+        points.push(point_of(chunk));
     }
-    model.add(&points[0..count])
+    model.add(&points)
 }
 
 // Adds what a record says to the draft or the model, whole or not at all.
@@ -74,44 +66,26 @@ fn add_record(record: Record<'_>, draft: &mut Draft, model: &mut Points) -> Resu
             late_limit,
             early_limit,
         } => {
-            match add_net(draft, net_of(launch, transition, late_limit, early_limit)) {
-                Ok(()) => Ok(()),
-                Err(fault) => Err(LoadCause::Draft(fault)),
-            }
+            add_net(draft, net_of(launch, transition, late_limit, early_limit))?;
         }
-        Record::Arc { tail, head, kind } => match draft.arc(
-            u16_of(tail),
-            u16_of(head),
-            u8_of(kind),
-        ) {
-            Ok(_) => Ok(()),
-            Err(fault) => Err(LoadCause::Draft(fault)),
-        },
-        Record::Kind { points } => match add_kind(model, points) {
-            Ok(_) => Ok(()),
-            Err(fault) => Err(LoadCause::Model(fault)),
-        },
+        Record::Arc { tail, head, kind } => {
+            let tail = u16_of(tail).unwrap_or_default();
+            let head = u16_of(head).unwrap_or_default();
+            let kind = u8_of(kind).unwrap_or_default();
+            draft.arc(tail, head, kind)?;
+        }
+        Record::Kind { points } => {
+            add_kind(model, points)?;
+        }
     }
+    Ok(())
 }
 
 // Adds the records of a file one by one, up to the first that is refused.
 pub fn load(file: &[u8], draft: &mut Draft, model: &mut Points) -> Result<(), LoadFault> {
-    let mut at = 0;
-    while at < file.len() {
-        match next_record(file, at) {
-            Ok((record, next)) => {
-                if let Err(cause) = add_record(record, draft, model) {
-                    return Err(LoadFault { offset: at, cause });
-                }
-                at = next;
-            }
-            Err(fault) => {
-                return Err(LoadFault {
-                    offset: at,
-                    cause: LoadCause::Reader(fault),
-                });
-            }
-        }
+    for record in Records::new(file) {
+        let (offset, record) = record?;
+        add_record(record, draft, model).map_err(|cause| LoadFault { offset, cause })?;
     }
     Ok(())
 }

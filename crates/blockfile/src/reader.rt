@@ -1,87 +1,58 @@
-// Reading one record: its tag, its map, and the fields whose bits stand.
-ghost use Rattle.std.specs.Prelude.{◌≡◌, ◌/◌, ◌%◌, ◌<◌, length, ◌==◌};
-ghost use Rattle.blockfile.specs.Parts.{field_len, net_len, arc_len, fields_len, PartsFit, Advances};
+// Reading the records of a file one by one: tag, map, and the fields that the map announces.
+ghost use Rattle.std.specs.Prelude.{◌≡◌, ◌-◌, length};
+ghost use Rattle.std.specs.Iterator.{at_most};
+ghost use Rattle.blockfile.specs.Parts.{net_len, arc_len, fields_len, PartsFit, Advances, NextRecord};
 
-use crate::faults::ReaderFault;
-use crate::records::{
-    ARC_MAPS, ARC_TAG, EARLY_LIMIT_BIT, HEAD_BIT, HEADER_LEN, KIND_BIT, KIND_NUMBER_LEN, KIND_TAG,
-    LATE_LIMIT_BIT, LAUNCH_BIT, LAUNCH_LEN, LIMIT_LEN, NET_MAPS, NET_NUMBER_LEN, NET_TAG,
-    POINT_LEN, Record, TAIL_BIT, TRANSITION_BIT, TRANSITION_LEN,
+use crate::faults::{LoadFault, ReaderFault};
+use crate::fields::{
+    ARC_BITS, EARLY_LIMIT, HEAD, KIND, LATE_LIMIT, LAUNCH, NET_BITS, TAIL, TRANSITION,
 };
+use crate::records::{HEADER_LEN, POINT_LEN, Record, Tag};
 
-// Whether a bit of a map stands.
-fn stands(map: u8, bit: u8) -> bool
-    requires { 0 < bit }
-    ensures { result ≡ (map / bit % 2 == 1) }
-{
-    map / bit % 2 == 1
-}
-
-// The bytes of a field of `len` bytes: none where its bit does not stand.
-fn field_len(map: u8, bit: u8, len: usize) -> usize
-    requires { 0 < bit }
-    ensures { result ≡ field_len map bit len }
-{
-    if stands(map, bit) { len } else { 0 }
-}
-
-// The bytes of the known fields of a record.
-fn fields_len(tag: u8, map: u8) -> usize
+// The bytes of the fields of a record.
+fn fields_len(tag: Tag, map: u8) -> usize
     ensures { result ≡ fields_len tag map }
 {
     match tag {
-        NET_TAG => {
-            field_len(map, LAUNCH_BIT, LAUNCH_LEN)
-                + field_len(map, TRANSITION_BIT, TRANSITION_LEN)
-                + field_len(map, LATE_LIMIT_BIT, LIMIT_LEN)
-                + field_len(map, EARLY_LIMIT_BIT, LIMIT_LEN)
+        Tag::Net => {
+            LAUNCH.len_in(map)
+                + TRANSITION.len_in(map)
+                + LATE_LIMIT.len_in(map)
+                + EARLY_LIMIT.len_in(map)
         }
-        ARC_TAG => {
-            field_len(map, TAIL_BIT, NET_NUMBER_LEN)
-                + field_len(map, HEAD_BIT, NET_NUMBER_LEN)
-                + field_len(map, KIND_BIT, KIND_NUMBER_LEN)
-        }
-        KIND_TAG => POINT_LEN * map.count_ones() as usize,
-        _ => 0,
+        Tag::Arc => TAIL.len_in(map) + HEAD.len_in(map) + KIND.len_in(map),
+        Tag::Kind => POINT_LEN * map.count_ones() as usize,
     }
 }
 
-// Refuses an unknown tag, and a map that its tag does not allow.
-fn check_map(tag: u8, map: u8) -> Result<(), ReaderFault> {
-    match tag {
-        NET_TAG => {
-            if map >= NET_MAPS {
-                return Err(ReaderFault::UnknownBit(map));
-            }
-            if stands(map, TRANSITION_BIT) && !stands(map, LAUNCH_BIT) {
-                return Err(ReaderFault::TransitionWithoutLaunch(map));
-            }
-            Ok(())
-        }
-        ARC_TAG => {
-            if map >= ARC_MAPS {
-                return Err(ReaderFault::UnknownBit(map));
-            }
-            Ok(())
-        }
-        KIND_TAG => Ok(()),
-        _ => Err(ReaderFault::UnknownTag(tag)),
+// Refuses a map that its tag does not allow.
+fn check_map(tag: Tag, map: u8) -> Result<(), ReaderFault> {
+    let known_bits = match tag {
+        Tag::Net => NET_BITS,
+        Tag::Arc => ARC_BITS,
+        Tag::Kind => u8::MAX,
+    };
+    if map & !known_bits != 0 {
+        return Err(ReaderFault::UnknownBit(map));
     }
+    if tag == Tag::Net && TRANSITION.is_in(map) && !LAUNCH.is_in(map) {
+        return Err(ReaderFault::TransitionWithoutLaunch(map));
+    }
+    Ok(())
 }
 
 fn net_record<'a>(map: u8, fields: &'a [u8]) -> Record<'a>
     requires { length fields.now ≡ net_len map }
     ensures { PartsFit result }
 {
-    let launch = field_len(map, LAUNCH_BIT, LAUNCH_LEN);
-    let transition = launch + field_len(map, TRANSITION_BIT, TRANSITION_LEN);
-    let late = transition + field_len(map, LATE_LIMIT_BIT, LIMIT_LEN);
-    let early = late + field_len(map, EARLY_LIMIT_BIT, LIMIT_LEN);
+    let (launch, rest) = fields.split_at(LAUNCH.len_in(map));
+    let (transition, rest) = rest.split_at(TRANSITION.len_in(map));
+    let (late_limit, early_limit) = rest.split_at(LATE_LIMIT.len_in(map));
     Record::Net {
-        launch: &fields[0..launch],
-        transition: &fields[launch..transition],
-        late_limit: &fields[transition..late],
-        early_limit: &fields[late..early],
+        launch,
+        transition,
+        late_limit,
+        early_limit,
     }
 }
 
@@ -89,25 +60,20 @@ fn arc_record<'a>(map: u8, fields: &'a [u8]) -> Record<'a>
     requires { length fields.now ≡ arc_len map }
     ensures { PartsFit result }
 {
-    let tail = field_len(map, TAIL_BIT, NET_NUMBER_LEN);
-    let head = tail + field_len(map, HEAD_BIT, NET_NUMBER_LEN);
-    let kind = head + field_len(map, KIND_BIT, KIND_NUMBER_LEN);
-    Record::Arc {
-        tail: &fields[0..tail],
-        head: &fields[tail..head],
-        kind: &fields[head..kind],
-    }
+    let (tail, rest) = fields.split_at(TAIL.len_in(map));
+    let (head, kind) = rest.split_at(HEAD.len_in(map));
+    Record::Arc { tail, head, kind }
 }
 
 // The fields of a record, cut apart.
-fn cut<'a>(tag: u8, map: u8, fields: &'a [u8]) -> Record<'a>
+fn cut<'a>(tag: Tag, map: u8, fields: &'a [u8]) -> Record<'a>
     requires { length fields.now ≡ fields_len tag map }
     ensures { PartsFit result }
 {
     match tag {
-        NET_TAG => net_record(map, fields),
-        ARC_TAG => arc_record(map, fields),
-        _ => Record::Kind { points: fields },
+        Tag::Net => net_record(map, fields),
+        Tag::Arc => arc_record(map, fields),
+        Tag::Kind => Record::Kind { points: fields },
     }
 }
 
@@ -115,19 +81,53 @@ fn cut<'a>(tag: u8, map: u8, fields: &'a [u8]) -> Record<'a>
 pub fn next_record<'a>(file: &'a [u8], at: usize) -> Result<(Record<'a>, usize), ReaderFault>
     ensures { Advances (length file.now) at result }
 {
-    let left = file.len().saturating_sub(at);
-    if left < HEADER_LEN {
-        return Err(ReaderFault::Truncated(file.len()));
+    let truncated = ReaderFault::Truncated(file.len());
+    let rest = file.get(at..).ok_or(truncated)?;
+    let ([tag, map], rest) = rest.split_first_chunk::<HEADER_LEN>().ok_or(truncated)?;
+    let tag = Tag::try_from(*tag)?;
+    let fields = rest.get(..fields_len(tag, *map)).ok_or(truncated)?;
+    check_map(tag, *map)?;
+    Ok((cut(tag, *map, fields), at + HEADER_LEN + fields.len()))
+}
+
+// The records of a file, each with its offset; the first that is refused ends them.
+#[derive(Drop)]
+pub struct Records<'a> {
+    file: &'a [u8],
+    at: usize,
+}
+
+impl<'a> Records<'a> {
+    pub fn new(file: &'a [u8]) -> Records<'a>
+        ensures file { result.file.now ≡ file.now }
+        ensures at { result.at ≡ 0 }
+    {
+        Records { file, at: 0 }
     }
-    let tag = file[at];
-    let map = file[at + 1];
-    let len = fields_len(tag, map);
-    if left - HEADER_LEN < len {
-        return Err(ReaderFault::Truncated(file.len()));
+}
+
+impl<'a> Iterator for Records<'a> {
+    type Item = Result<(usize, Record<'a>), LoadFault>;
+
+    ghost next_gives = { NextRecord };
+
+    ghost remaining = { λ s. at_most (length s.file.now - s.at) };
+
+    fn next(&mut self) -> Option<Result<(usize, Record<'a>), LoadFault>> {
+        let offset = self.at;
+        if offset >= self.file.len() {
+            return None;
+        }
+        match next_record(self.file, offset) {
+            Ok((record, next)) => {
+                self.at = next;
+                Some(Ok((offset, record)))
+            }
+            Err(fault) => {
+                self.at = self.file.len();
+                let cause = fault.into();
+                Some(Err(LoadFault { offset, cause }))
+            }
+        }
     }
-    if let Err(fault) = check_map(tag, map) {
-        return Err(fault);
-    }
-    let start = at + HEADER_LEN;
-    Ok((cut(tag, map, &file[start..start + len]), start + len))
 }

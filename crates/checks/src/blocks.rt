@@ -13,6 +13,7 @@ use std::test::Fail;
 use timing::answers::{Answer, NO_SIGNAL, NONE, SignalRecord};
 use timing::faults::TimingFault;
 use units::senses::{Early, Late};
+use units::steps::STEPS;
 
 #[test]
 fn one_net(rt: HostRuntime) -> Result<(), Fail> {
@@ -139,19 +140,16 @@ fn a_self_arc_is_a_cycle(rt: HostRuntime) -> Result<(), Fail> {
     Ok(())
 }
 
-// The kept signals of a net, as (step, time), of which there are at most two here.
-fn kept(signals: &[SignalRecord], net: usize) -> (usize, (usize, u32), (usize, u32)) {
-    let mut found = [(0, 0); 2];
-    let mut count = 0;
-    for (i, record) in signals.iter().enumerate() {
-        if record.kept && i / 32 == net {
-            if count < 2 {
-                found[count] = (i % 32, record.time);
-            }
-            count = count.wrapping_add(1);
-        }
-    }
-    (count, found[0], found[1])
+// The signals that a net keeps, each as step and time.
+fn kept(heap: Global, signals: &[SignalRecord], net: usize) -> Result<Vec<(usize, u32)>, Fail> {
+    let row = signals.chunks(STEPS).nth(net).ok_or("no such net")?;
+    let kept = row
+        .iter()
+        .enumerate()
+        .filter(|(_, record)| record.kept)
+        .map(|(step, record)| (step, record.time))
+        .collect(heap)?;
+    Ok(kept)
 }
 
 // A path through every net of a block of full length.
@@ -226,10 +224,13 @@ fn example_keeps(rt: HostRuntime) -> Result<(), Fail> {
             carried: 4,
         })
     );
-    assert_eq!(rt; kept(&signals, 0), (1, (4, 0), (0, 0)));
-    assert_eq!(rt; kept(&signals, 1), (1, (4, 0), (0, 0)));
-    assert_eq!(rt; kept(&signals, 2), (2, (2, 70), (20, 60)));
-    assert_eq!(rt; kept(&signals, 3), (1, (6, 90), (0, 0)));
+    assert_eq!(rt; kept(heap, &signals, 0)?.as_slice(), [(4, 0)].as_slice());
+    assert_eq!(rt; kept(heap, &signals, 1)?.as_slice(), [(4, 0)].as_slice());
+    assert_eq!(rt;
+        kept(heap, &signals, 2)?.as_slice(),
+        [(2, 70), (20, 60)].as_slice()
+    );
+    assert_eq!(rt; kept(heap, &signals, 3)?.as_slice(), [(6, 90)].as_slice());
     let early = block.time(
         &model,
         Early,
@@ -247,7 +248,10 @@ fn example_keeps(rt: HostRuntime) -> Result<(), Fail> {
             carried: 4,
         })
     );
-    assert_eq!(rt; kept(&signals, 2), (2, (2, 70), (20, 60)));
-    assert_eq!(rt; kept(&signals, 3), (1, (1, 82), (0, 0)));
+    assert_eq!(rt;
+        kept(heap, &signals, 2)?.as_slice(),
+        [(2, 70), (20, 60)].as_slice()
+    );
+    assert_eq!(rt; kept(heap, &signals, 3)?.as_slice(), [(1, 82)].as_slice());
     Ok(())
 }

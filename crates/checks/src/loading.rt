@@ -2,6 +2,7 @@
 use crate::files::{EXAMPLE, bytes_of};
 use blockfile::faults::{LoadCause, LoadFault, ReaderFault};
 use blockfile::loading::load;
+use blockfile::reader::Records;
 use models::points::Points;
 use network::draft::Draft;
 use network::faults::DraftFault;
@@ -54,6 +55,32 @@ fn example_loads(rt: HostRuntime) -> Result<(), Fail> {
     assert_eq!(rt; draft.arcs(), [to_2, also_to_2, to_3].as_slice());
     assert!(rt; model.points(2).is_some() && model.points(3).is_none());
     Ok(())
+}
+
+// The offsets of the example's records.
+#[test]
+fn example_records(rt: HostRuntime) -> Result<(), Fail> {
+    let file = bytes_of(rt.alloc(), EXAMPLE)?;
+    let mut offsets = Vec::new(rt.alloc());
+    for record in Records::new(&file) {
+        let (offset, _) = record?;
+        offsets.push(offset)?;
+    }
+    assert_eq!(rt;
+        offsets.as_slice(),
+        [0, 8, 16, 18, 28, 38, 48, 58, 62, 69].as_slice()
+    );
+    Ok(())
+}
+
+// Nothing is read after a record that is refused.
+#[test]
+fn records_end_at_a_refusal(rt: HostRuntime) {
+    let mut records = Records::new(&[7, 0, 1, 0]);
+    let fault = records.next().and_then(|record| record.err());
+    let cause = LoadCause::Reader(ReaderFault::UnknownTag(7));
+    assert_eq!(rt; fault, Some(LoadFault { offset: 0, cause }));
+    assert!(rt; records.next().is_none());
 }
 
 // Checks that a file is refused, and that so many nets stand in the draft then.

@@ -2,5 +2,6 @@
 #![tactic(auto)]
 
 mod areas;
+mod errors;
 mod lines;
 pub mod reporting;

@@ -1,54 +1,145 @@
 // The lines of a report.
+ghost use Rattle.std.specs.Prelude.{Some};
+ghost use Rattle.report.specs.Lines.{fault_line, slack_text, arcs_text, sense_line, net_line, net_lines, timed_lines};
+
 use crate::areas::Timed;
-use std::alloc::{AllocError, Global};
-use timing::answers::NONE;
+use std::fmt;
+use timing::answers::{Answer, NONE};
 use units::refusals::Refusal;
 
 // The one line of a file that is refused.
-pub fn fault_line(heap: Global, offset: usize, refusal: Refusal) -> Result<String, AllocError> {
-    let number = refusal.number;
-    let place = refusal.place;
-    format!(in heap; "fault {offset} {number} {place}\n")
+#[derive(Clone, Copy)]
+pub struct FaultLine {
+    pub offset: usize,
+    pub refusal: Refusal,
 }
 
-// The sense, worst slack, number of arcs and the arcs of a timing, or the sense and that there is no path.
-pub fn push_timing(
-    text: &mut String,
-    heap: Global,
-    sense: &str,
-    timed: &Timed,
-) -> Result<(), AllocError> {
-    let slack = timed.answer.worst_slack;
-    let count = timed.answer.arcs;
-    if slack == NONE {
-        return text.push_str(format!(in heap; "{sense} none\n")?.as_str());
+impl fmt::Display for FaultLine {
+    ghost output = { λ line. Some (fault_line line.offset line.refusal) };
+
+    fn fmt<W: fmt::Write>(&self, f: &mut fmt::Formatter<W>) -> fmt::Result {
+        let Refusal { number, place, .. } = self.refusal;
+        writeln!(f, "fault {} {number} {place}", self.offset)
     }
-    text.push_str(format!(in heap; "{sense} {slack} {count}")?.as_str())?;
-    for arc in timed.path.iter().take(count as usize) {
-        text.push_str(format!(in heap; " {arc}")?.as_str())?;
-    }
-    text.push_str("\n")
 }
 
-// A slack as the report writes it.
-fn written_slack(heap: Global, slack: i32) -> Result<String, AllocError> {
-    if slack == NONE {
-        return String::from_str(heap, "-");
+// A slack, or `-` where there is none.
+#[derive(Clone, Copy)]
+struct Slack(i32);
+
+impl fmt::Display for Slack {
+    ghost output = { λ slack. Some (slack_text slack.0) };
+
+    fn fmt<W: fmt::Write>(&self, f: &mut fmt::Formatter<W>) -> fmt::Result {
+        match self.0 {
+            NONE => write!(f, "-"),
+            slack => write!(f, "{slack}"),
+        }
     }
-    format!(in heap; "{slack}")
 }
 
-// Each net with its late and its early slack.
-pub fn push_nets(
-    text: &mut String,
-    heap: Global,
-    late: &[i32],
-    early: &[i32],
-) -> Result<(), AllocError> {
-    for (net, (late_slack, early_slack)) in late.iter().zip(early.iter()).enumerate() {
-        let late_text = written_slack(heap, *late_slack)?;
-        let early_text = written_slack(heap, *early_slack)?;
-        text.push_str(format!(in heap; "net {net} {late_text} {early_text}\n")?.as_str())?;
+// The arcs of a path in order.
+#[derive(Clone, Copy)]
+struct Arcs<'a>(&'a [u16]);
+
+impl fmt::Display for Arcs<'_> {
+    ghost output = { λ arcs. Some (arcs_text arcs.0.now) };
+
+    fn fmt<W: fmt::Write>(&self, f: &mut fmt::Formatter<W>) -> fmt::Result {
+        for arc in self.0 {
+            write!(f, " {arc}")?;
+        }
+        Ok(())
     }
-    Ok(())
+}
+
+// A sense with its worst slack and path, or that it has no path.
+#[derive(Clone, Copy)]
+struct SenseLine<'a> {
+    sense: &'a str,
+    timed: &'a Timed,
+}
+
+impl fmt::Display for SenseLine<'_> {
+    ghost output = { λ line. Some (sense_line line.sense.now line.timed.now) };
+
+    fn fmt<W: fmt::Write>(&self, f: &mut fmt::Formatter<W>) -> fmt::Result {
+        let sense = self.sense;
+        let Answer {
+            worst_slack,
+            arcs,
+            ..
+        } = self.timed.answer;
+        if worst_slack == NONE {
+            return writeln!(f, "{sense} none");
+        }
+        let path = Arcs(&self.timed.path);
+        writeln!(f, "{sense} {worst_slack} {arcs}{path}")
+    }
+}
+
+// A net with its late and its early slack.
+#[derive(Clone, Copy)]
+struct NetLine {
+    net: usize,
+    late: Slack,
+    early: Slack,
+}
+
+impl fmt::Display for NetLine {
+    ghost output = { λ line. Some (net_line line.net line.late.0 line.early.0) };
+
+    fn fmt<W: fmt::Write>(&self, f: &mut fmt::Formatter<W>) -> fmt::Result {
+        writeln!(f, "net {} {} {}", self.net, self.late, self.early)
+    }
+}
+
+// The nets by number, each with its slacks.
+#[derive(Clone, Copy)]
+struct NetLines<'a> {
+    late: &'a [i32],
+    early: &'a [i32],
+}
+
+impl fmt::Display for NetLines<'_> {
+    ghost output = { λ lines. Some (net_lines lines.late.now lines.early.now) };
+
+    fn fmt<W: fmt::Write>(&self, f: &mut fmt::Formatter<W>) -> fmt::Result {
+        for (net, (late, early)) in self.late.iter().zip(self.early.iter()).enumerate() {
+            let line = NetLine {
+                net,
+                late: Slack(*late),
+                early: Slack(*early),
+            };
+            write!(f, "{line}")?;
+        }
+        Ok(())
+    }
+}
+
+// A block timed in both senses: a line for each sense, and one for each net.
+#[derive(Drop)]
+pub struct TimedBlock {
+    pub late: Timed,
+    pub early: Timed,
+}
+
+impl fmt::Display for TimedBlock {
+    ghost output = { λ block. Some (timed_lines block) };
+
+    fn fmt<W: fmt::Write>(&self, f: &mut fmt::Formatter<W>) -> fmt::Result {
+        let late = SenseLine {
+            sense: "late",
+            timed: &self.late,
+        };
+        let early = SenseLine {
+            sense: "early",
+            timed: &self.early,
+        };
+        let nets = NetLines {
+            late: &self.late.slacks,
+            early: &self.early.slacks,
+        };
+        write!(f, "{late}{early}{nets}")
+    }
 }

@@ -1,10 +1,12 @@
 // From a block file to its report.
-use crate::areas::{Timed, time_block};
-use crate::lines::{fault_line, push_nets, push_timing};
-use block::faults::TimeFault;
+ghost use Rattle.std.specs.Prelude.{IfOk, string_bytes};
+ghost use Rattle.report.specs.Lines.{IsReport};
+
+use crate::areas::time_block;
+use crate::errors::TimingError;
+use crate::lines::{FaultLine, TimedBlock};
 use block::settled_block::SettledBlock;
 use blockfile::loading::load;
-use models::delay_model::DelayModel;
 use models::points::Points;
 use network::draft::Draft;
 use std::alloc::{AllocError, Global};
@@ -13,40 +15,26 @@ use units::senses::{Early, Late};
 // The mark under which a reported block is settled.
 const MARK: u32 = 0;
 
-// The lines of both senses and of the nets.
-fn timing_lines(heap: Global, late: &Timed, early: &Timed) -> Result<String, AllocError> {
-    let mut text = String::new(heap);
-    push_timing(&mut text, heap, "late", late)?;
-    push_timing(&mut text, heap, "early", early)?;
-    push_nets(&mut text, heap, &late.slacks, &early.slacks)?;
-    Ok(text)
-}
-
-// Times a block in both senses; a refusal stands at the end of the file.
-fn timing_report<M: DelayModel>(
-    heap: Global,
-    block: &SettledBlock,
-    model: &M,
-    len: usize,
-) -> Result<String, AllocError> {
-    let late = match time_block(heap, block, model, Late)? {
-        Ok(late) => late,
-        Err(fault) => return fault_line(heap, len, fault.into()),
-    };
-    let early = match time_block(heap, block, model, Early)? {
-        Ok(early) => early,
-        Err(fault) => return fault_line(heap, len, fault.into()),
-    };
-    timing_lines(heap, &late, &early)
-}
-
-// The report of a block file.
-pub fn report(heap: Global, file: &[u8]) -> Result<String, AllocError> {
+// Times the block of a file in both senses.
+fn time_file(heap: Global, file: &[u8]) -> Result<TimedBlock, TimingError> {
     let mut draft = Draft::new(heap)?;
     let mut model = Points::new(heap)?;
-    if let Err(fault) = load(file, &mut draft, &mut model) {
-        return fault_line(heap, fault.offset, fault.into());
-    }
+    load(file, &mut draft, &mut model)?;
     let block = SettledBlock::settle(draft, MARK);
-    timing_report(heap, &block, &model, file.len())
+    let late = time_block(heap, &block, &model, Late)?;
+    let early = time_block(heap, &block, &model, Early)?;
+    Ok(TimedBlock { late, early })
+}
+
+// The report of a block file. A refusal of the block stands at the end of the file.
+pub fn report(heap: Global, file: &[u8]) -> Result<String, AllocError>
+    ensures { IfOk result (λ text. IsReport (string_bytes text)) }
+{
+    let (offset, refusal) = match time_file(heap, file) {
+        Ok(timed) => return timed.to_string(heap),
+        Err(TimingError::OutOfMemory(error)) => return Err(error),
+        Err(TimingError::Load(fault)) => (fault.offset, fault.into()),
+        Err(TimingError::Time(fault)) => (file.len(), fault.into()),
+    };
+    FaultLine { offset, refusal }.to_string(heap)
 }
