@@ -1,45 +1,27 @@
 // A curve made of points, and read.
-ghost use Rattle.std.specs.Prelude.{◌≡◌, ◌≤◌, length, take};
+ghost use Rattle.std.specs.Prelude.{◌≡◌, ◌≤◌};
 ghost use Rattle.units.specs.Refusals.{Outcome};
 ghost use Rattle.units.specs.Steps.{last_step};
 ghost use Rattle.models.specs.Curves.{points_of};
 ghost use Rattle.models.specs.Faults.{refusal_of};
 ghost use Rattle.models.specs.Kinds.{figures_at};
-ghost use Rattle.models.specs.PointRows.{max_points, point_rows};
+ghost use Rattle.models.specs.PointRows.{point_rows};
 
 use super::Curve;
 use crate::faults::ModelFault;
 use crate::interpolation::tabulate;
 use crate::point::Point;
-use crate::point_tests::{MAX_POINTS, test_points};
-
-// The points, padded by points of zeros.
-fn padded(points: &[Point]) -> [Point; MAX_POINTS]
-    requires { length points.now ≤ max_points }
-    ensures { take (length points.now) result ≡ points.now }
-{
-    let mut row = [Point {
-        step: 0,
-        delay: 0,
-        output_step: 0,
-    }; MAX_POINTS];
-    for i in 0..points.len() {
-        row[i] = points[i];
-    }
-    row
-}
+use crate::point_tests::test_points;
+use arrayvec::ArrayVec;
 
 impl Curve {
     pub fn new(points: &[Point]) -> Result<Curve, ModelFault>
         ensures { Outcome refusal_of (point_rows points.now) result (λ c. points_of c ≡ points.now) (Unit {0}) }
     {
         test_points(points)?;
-        let row = padded(points);
-        let figures = tabulate(points);
         Ok(Curve {
-            points: row,
-            len: points.len(),
-            figures,
+            points: ArrayVec::try_from(points).unwrap(),
+            figures: tabulate(points),
         })
     }
 
@@ -47,7 +29,7 @@ impl Curve {
     pub fn points(&self) -> &[Point]
         ensures { result.now ≡ points_of self.now }
     {
-        &self.points[0..self.len]
+        &self.points
     }
 
     // The delay and the output step at a step.
