@@ -35,10 +35,8 @@ fn interpolate(points: &[Point], step: u8) -> (u32, u8)
     ensures figures { result ≡ figures_at points.now step }
     ensures bound { result.0 ≤ max_delay }
 {
-    let [lower, upper] = points
-        .array_windows::<2>()
-        .find(|[_, upper]| step <= upper.step)
-        .unwrap();
+    let i = reaching(points, step);
+    let (lower, upper) = (points[i - 1], points[i]);
     let past = u32::from(step - lower.step);
     let span = u32::from(upper.step - lower.step);
     let delay = part_way(u32::from(lower.delay), u32::from(upper.delay), past, span);
