@@ -1,10 +1,11 @@
 // Delay models: the interface, kinds given by points, kinds of fixed figures, derating, and a choice of two models.
 #![tactic(auto)]
 
+mod choice;
 mod curve;
 pub mod delay_model;
 pub mod derated;
-pub mod either;
+pub use either;
 pub mod faults;
 pub mod fixed;
 mod interpolation;
