@@ -31,7 +31,7 @@ pub fn test_points(points: &[Point]) -> Result<(), ModelFault>
     ensures { Outcome refusal_of (point_rows points.now) result (λ _. WellFormed points.now) (Unit {0}) }
 {
     let count = points.len();
-    if count < MIN_POINTS || count > MAX_POINTS {
+    if !(MIN_POINTS..=MAX_POINTS).contains(&count) {
         return Err(ModelFault::PointCount(count));
     }
     if points[0].step != 0 {
