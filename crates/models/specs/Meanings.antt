@@ -1,16 +1,16 @@
 -- The meanings of the models are lawful. Assumes nothing.
-use Rattle.std.specs.Prelude.{◌≡◌, ℕ, zero, suc, ◌*◌, ◌/◌, ◌<◌, ◌≤◌, ◌⊎◌, List, [], ◌∷◌, ◌++◌, length, get_or, slice_index_or, refl}
-use Rattle.std.proofs.Common.{sym, ap, subst, inl, inr, zero-le, zero-mul, mul-le-mul_right, le_refl, not-suc-le-zero, arith, lit<}
-use Rattle.std.proofs.lemmas.List.{get_or_past}
+use Rattle.std.specs.Prelude.{◌≡◌, ℕ, zero, suc, ◌*◌, ◌/◌, ◌<◌, ◌≤◌, ◌⊎◌, List, [], ◌∷◌, map, length, slice_index_or, refl}
+use Rattle.std.proofs.Common.{inl, inr, zero-le, zero-mul, mul-le-mul_right, le_refl, arith, lit<}
 use Rattle.std.proofs.lemmas.Bool.Decides.{nat_tests}
 use Rattle.units.specs.Senses.{NeverFalls}
 use Rattle.units.specs.Steps.{last_step}
-use Rattle.models.specs.declared.point.Point.{Point}
 use Rattle.models.specs.declared.curve.Curve.{Curve}
-use Rattle.models.specs.Curves.{points_of, kinds_of}
+use Rattle.models.specs.declared.fixed.kind.FixedKind.{FixedKind}
+use Rattle.models.specs.Curves.{points_of}
+use Rattle.models.specs.FixedKinds.{figures_of}
 use Rattle.models.specs.Derating.{derated}
-use Rattle.models.specs.Kinds.{point_step, point_delay, point_output_step, RisesBy, AtMost, DelaysFit, interpolated, figures_at, Interpolates, points_meaning, FixedDelaysFit, FixedOutputStepsFit, fixed_meaning}
-use Rattle.models.specs.Meaning.{Meaning, LawfulFigure, Lawful, max_kinds, max_delay, where_held}
+use Rattle.models.specs.Kinds.{point_delay, point_output_step, figures_at, Interpolates, no_figures, kinds_meaning}
+use Rattle.models.specs.Meaning.{Meaning, LawfulFigure, LawfulKind, Lawful, max_kinds, max_delay, where_held}
 use Rattle.models.specs.Between.{div_rises, interpolated_rises, interpolated_at_most, interpolated_between}
 
 where_not_held : (count : ℕ) (figure : ℕ → ℕ → ℕ) (k s : ℕ) → count ≤ k → where_held count figure k s ≡ 0
@@ -56,75 +56,38 @@ derated_lawful percent m l = record {
   output_step = l.output_step;
 }
 
--- models of fixed figures
+-- kinds whose figures are lawful make a lawful model
 
-pub fixed_lawful : (kinds : List (ℕ × ℕ)) → length kinds ≤ max_kinds → FixedDelaysFit kinds → FixedOutputStepsFit kinds → Lawful (fixed_meaning kinds)
-fixed_lawful kinds few delays output_steps = record {
+pub each_lawful : {K : Type 0} (figures : K → ℕ → ℕ × ℕ) → ((x : K) → LawfulKind (figures x)) → (kinds : List K) (k : ℕ) → LawfulKind (slice_index_or (map figures kinds) k no_figures)
+each_lawful figures law [] k = record { delay_fits = λ s l. zero-le; output_step_fits = λ s l. zero-le; delay_rises = λ s t h i. zero-le; output_step_rises = λ s t h i. zero-le }
+each_lawful figures law (x ∷ kinds) zero = law x
+each_lawful figures law (x ∷ kinds) (suc k) = each_lawful figures law kinds k
+
+pub kinds_lawful : (kinds : List (ℕ → ℕ × ℕ)) → length kinds ≤ max_kinds → ((k : ℕ) → LawfulKind (slice_index_or kinds k no_figures)) → Lawful (kinds_meaning kinds)
+kinds_lawful kinds few law = record {
   count_fits = few;
-  delay = held_lawful (length kinds) max_delay (λ k s. (get_or kinds k (0, 0)).0) (λ k s _. delays k) (λ k s t _ _. le_refl _);
-  output_step = held_lawful (length kinds) last_step (λ k s. (get_or kinds k (0, 0)).1) (λ k s _. output_steps k) (λ k s t _ _. le_refl _);
+  delay = held_lawful (length kinds) max_delay (λ k s. (slice_index_or kinds k no_figures s).0) (λ k. (law k).delay_fits) (λ k. (law k).delay_rises);
+  output_step = held_lawful (length kinds) last_step (λ k s. (slice_index_or kinds k no_figures s).1) (λ k. (law k).output_step_fits) (λ k. (law k).output_step_rises);
 }
 
--- what holds of every place of a list, and of its default, holds after a push
-pub pushed : {X : Type 0} (P : X → Type 0) (xs : List X) (y d : X) → ((k : ℕ) → P (slice_index_or xs k d)) → P y → P d → (k : ℕ) → P (slice_index_or (xs ++ y ∷ []) k d)
-pushed P [] y d h py pd zero = py
-pushed P [] y d h py pd (suc k) = pd
-pushed P (x ∷ xs) y d h py pd zero = h 0
-pushed P (x ∷ xs) y d h py pd (suc k) = pushed P xs y d (λ j. h (suc j)) py pd k
-
-pub pushed_into : {X : Type 0} (P : X → Type 0) (xs zs : List X) (y d : X) → zs ≡ xs ++ y ∷ [] → ((k : ℕ) → P (slice_index_or xs k d)) → P y → P d → (k : ℕ) → P (slice_index_or zs k d)
-pushed_into P xs zs y d e h py pd k = subst (λ l. P (slice_index_or l k d)) (sym e) (pushed P xs y d h py pd k)
-
--- models of points
-
--- what the law of a kind rests on
-pub record SoundKind (ps : List Point) : Type 0 where
-  pub steps : RisesBy 1 point_step ps
-  pub delays : RisesBy 0 point_delay ps
-  pub output_steps : RisesBy 0 point_output_step ps
-  pub delays_fit : DelaysFit ps
-  pub output_steps_fit : AtMost last_step point_output_step ps
-
-pub sound_kinds : (curves : List Curve) (k : ℕ) → SoundKind (slice_index_or (kinds_of curves) k [])
-sound_kinds [] k = record {
-  steps = λ i l. absurd (not-suc-le-zero l);
-  delays = λ i l. absurd (not-suc-le-zero l);
-  output_steps = λ i l. absurd (not-suc-le-zero l);
-  delays_fit = λ s l. zero-le;
-  output_steps_fit = λ i l. absurd (not-suc-le-zero l);
-}
-sound_kinds (c ∷ curves) zero = record { steps = c.steps; delays = c.delays; output_steps = c.output_steps; delays_fit = c.delays_fit; output_steps_fit = c.output_steps_fit }
-sound_kinds (c ∷ curves) (suc k) = sound_kinds curves k
-
-pub kinds_push : (curves : List Curve) (c : Curve) → kinds_of (curves ++ c ∷ []) ≡ kinds_of curves ++ points_of c ∷ []
-kinds_push [] c = refl
-kinds_push (d ∷ curves) c = ap (λ (l : List (List Point)). points_of d ∷ l) (kinds_push curves c)
-
-pub kinds_length : (curves : List Curve) → length (kinds_of curves) ≡ length curves
-kinds_length [] = refl
-kinds_length (c ∷ curves) = ap suc (kinds_length curves)
-
-pub points_lawful : (kinds : List (List Point)) → length kinds ≤ max_kinds → ((k : ℕ) → SoundKind (slice_index_or kinds k [])) → Lawful (points_meaning kinds)
-points_lawful kinds few sound = record {
-  count_fits = few;
-  delay = held_lawful (length kinds) max_delay (λ k s. interpolated point_delay (slice_index_or kinds k []) s)
-      (λ k s l. (sound k).delays_fit s l)
-      (λ k s t h _. interpolated_rises point_delay (slice_index_or kinds k []) s t (sound k).steps (sound k).delays h);
-  output_step = held_lawful (length kinds) last_step (λ k s. interpolated point_output_step (slice_index_or kinds k []) s)
-      (λ k s _. interpolated_at_most point_output_step last_step (slice_index_or kinds k []) s (sound k).output_steps (sound k).output_steps_fit)
-      (λ k s t h _. interpolated_rises point_output_step (slice_index_or kinds k []) s t (sound k).steps (sound k).output_steps h);
+pub curve_lawful : (c : Curve) → LawfulKind (figures_at (points_of c))
+curve_lawful c = record {
+  delay_fits = c.delays_fit;
+  output_step_fits = λ s l. interpolated_at_most point_output_step last_step (points_of c) s c.output_steps c.output_steps_fit;
+  delay_rises = λ s t h i. interpolated_rises point_delay (points_of c) s t c.steps c.delays h;
+  output_step_rises = λ s t h i. interpolated_rises point_output_step (points_of c) s t c.steps c.output_steps h;
 }
 
--- the figures of a sound kind follow its rule
-pub sound_interpolates : (ps : List Point) (s : ℕ) → SoundKind ps → Interpolates ps s (figures_at ps s)
-sound_interpolates ps s sound i l lo hi = (
-  interpolated_between point_delay ps i s sound.steps sound.delays l lo hi,
-  interpolated_between point_output_step ps i s sound.steps sound.output_steps l lo hi,
+pub curve_follows : (c : Curve) (s : ℕ) → s ≤ last_step → Interpolates (points_of c) s (figures_at (points_of c) s)
+curve_follows c s le i l lo hi = (
+  interpolated_between point_delay (points_of c) i s c.steps c.delays l lo hi,
+  interpolated_between point_output_step (points_of c) i s c.steps c.output_steps l lo hi,
 )
 
--- a kind that is not held has no points, and no step past the last is asked for
-pub absent_interpolates : (kinds : List (List Point)) (k s : ℕ) (figures : ℕ × ℕ) → (length kinds ≤ k) ⊎ (last_step < s) → s ≤ last_step → Interpolates (slice_index_or kinds k []) s figures
-absent_interpolates kinds k s figures (inl h) le =
-    let e : get_or kinds k [] ≡ [] = get_or_past kinds k [] h in
-    subst (λ (ps : List Point). Interpolates ps s figures) (sym e) (λ i l. absurd (not-suc-le-zero l))
-absent_interpolates kinds k s figures (inr h) le = absurd (omega arith)
+pub fixed_kind_lawful : (kind : FixedKind) → LawfulKind (λ step. figures_of kind)
+fixed_kind_lawful kind = record {
+  delay_fits = λ s l. kind.delay_fits;
+  output_step_fits = λ s l. kind.output_step_fits;
+  delay_rises = λ s t h i. le_refl _;
+  output_step_rises = λ s t h i. le_refl _;
+}
