@@ -78,14 +78,14 @@ curve_lawful c = record {
   output_step_rises = λ s t h i. interpolated_rises point_output_step (points_of c) s t c.steps c.output_steps h;
 }
 
-pub curve_follows : (c : Curve) (s : ℕ) → s ≤ last_step → Interpolates (points_of c) s (figures_at (points_of c) s)
-curve_follows c s le i l lo hi = (
+pub curve_interpolates : (c : Curve) (s : ℕ) → s ≤ last_step → Interpolates (points_of c) s (figures_at (points_of c) s)
+curve_interpolates c s le i l lo hi = (
   interpolated_between point_delay (points_of c) i s c.steps c.delays l lo hi,
   interpolated_between point_output_step (points_of c) i s c.steps c.output_steps l lo hi,
 )
 
-pub fixed_kind_lawful : (kind : FixedKind) → LawfulKind (λ step. figures_of kind)
-fixed_kind_lawful kind = record {
+pub fixed_lawful : (kind : FixedKind) → LawfulKind (λ step. figures_of kind)
+fixed_lawful kind = record {
   delay_fits = λ s l. kind.delay_fits;
   output_step_fits = λ s l. kind.output_step_fits;
   delay_rises = λ s t h i. le_refl _;

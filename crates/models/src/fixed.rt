@@ -1,14 +1,14 @@
 // A model whose kinds have one delay and one output step each.
 ghost use Rattle.std.specs.Prelude.{◌≡◌, refl};
-ghost use Rattle.models.specs.Calls.{FixedAdded, fixed_in};
+ghost use Rattle.models.specs.Calls.{fixed_in, FixedAdded};
 ghost use Rattle.models.specs.FixedKinds.{figures_of};
-ghost use Rattle.models.specs.Meanings.{fixed_kind_lawful};
+ghost use Rattle.models.specs.Meanings.{fixed_lawful};
 
 mod kind;
 
 use crate::faults::ModelFault;
 use crate::kinds::{Kind, Kinds};
-pub use kind::FixedKind;
+use kind::FixedKind;
 use units::steps::LAST_STEP;
 
 impl Kind for FixedKind {
@@ -16,18 +16,18 @@ impl Kind for FixedKind {
 
     ghost Rule = { λ kind step figures. figures ≡ figures_of kind };
 
-    ghost lawful = { fixed_kind_lawful };
+    ghost lawful = { fixed_lawful };
 
-    ghost follows = { λ x step l. refl };
+    ghost follows_rule = { λ kind step l. refl };
 
     fn figures(&self, _step: u8) -> (u32, u8) {
-        (self.delay, self.output_step)
+        (u32::from(self.delay), self.output_step)
     }
 }
 
 pub type Fixed = Kinds<FixedKind>;
 
-impl Kinds<FixedKind> {
+impl Fixed {
     // One kind more; answers its number.
     pub fn add(&mut self, delay: u16, output_step: u8) -> Result<u8, ModelFault>
         ensures { FixedAdded (fixed_in self.old) delay output_step result (fixed_in self.new) }
@@ -36,10 +36,7 @@ impl Kinds<FixedKind> {
         if output_step > LAST_STEP {
             return Err(ModelFault::OutputStepTooLarge(0));
         }
-        self.push(FixedKind {
-            delay: u32::from(delay),
-            output_step,
-        });
+        self.push(FixedKind { delay, output_step });
         Ok(number)
     }
 }

@@ -6,15 +6,15 @@ ghost use Rattle.units.specs.Refusals.{Outcome};
 ghost use Rattle.units.specs.Steps.{last_step};
 ghost use Rattle.models.specs.Faults.{refusal_of, full_row};
 ghost use Rattle.models.specs.Kinds.{kinds_meaning};
-ghost use Rattle.models.specs.Meaning.{max_kinds, LawfulKind};
-ghost use Rattle.models.specs.Meanings.{kinds_lawful, each_lawful};
+ghost use Rattle.models.specs.Meaning.{LawfulKind, max_kinds};
+ghost use Rattle.models.specs.Meanings.{each_lawful, kinds_lawful};
 
 use crate::delay_model::{DelayModel, MAX_KINDS};
 use crate::faults::ModelFault;
 use std::alloc::{AllocError, Global};
 use units::steps::LAST_STEP;
 
-// A kind, whose figures at each step follow a rule.
+// A sort of kind: its figures at each step, and the rule that they follow.
 pub trait Kind: Drop {
     ghost figures: { Self → ℕ → ℕ × ℕ };
 
@@ -28,10 +28,10 @@ pub trait Kind: Drop {
     // Ranges, and no figure that falls as the step rises.
     ghost lawful: { (x : Self) → LawfulKind (figures x) };
 
-    ghost follows: { (x : Self) (step : ℕ) → step ≤ last_step → Rule x step (figures x step) };
+    ghost follows_rule: { (x : Self) (step : ℕ) → step ≤ last_step → Rule x step (figures x step) };
 }
 
-// At most 32 kinds, with room for all of them from the start.
+// A model of at most 32 kinds, with room for all of them from the start.
 #[derive(Drop)]
 pub struct Kinds<K> {
     held: Vec<K>,
@@ -48,9 +48,10 @@ impl<K: Kind> Kinds<K> {
         Ok(Kinds { held })
     }
 
-    // The number of the next kind.
+    // The number that the next kind gets.
     pub(crate) fn next_number(&self) -> Result<u8, ModelFault>
-        ensures { Outcome refusal_of (full_row (vec_len self.now.held) ∷ []) result (λ number. (number ≡ vec_len self.now.held) × (number < max_kinds)) (Unit {0}) }
+        ensures { Outcome refusal_of (full_row (vec_len self.now.held) ∷ []) result
+            (λ number. (number ≡ vec_len self.now.held) × (number < max_kinds)) (Unit {0}) }
     {
         if self.held.len() >= MAX_KINDS {
             return Err(ModelFault::KindsFull);
@@ -65,6 +66,7 @@ impl<K: Kind> Kinds<K> {
         self.held.push_reserved(kind);
     }
 
+    // The kind of a number, if it is held.
     pub(crate) fn get(&self, kind: u8) -> Option<&K>
         ensures { option_copied result ≡ slice_get self.now.held.items kind }
     {
@@ -75,7 +77,9 @@ impl<K: Kind> Kinds<K> {
 impl<K: Kind> DelayModel for Kinds<K> {
     ghost meaning = { λ kinds. kinds_meaning (map K.figures kinds.held.items) };
 
-    ghost lawful = { λ x. kinds_lawful (map K.figures x.held.items) (omega (arith, length-map x.held.items K.figures, x.few, x.held.ok.0)) (each_lawful K.figures K.lawful x.held.items) };
+    ghost lawful = { λ x.
+        let kinds = x.held.items in
+        kinds_lawful (map K.figures kinds) (omega (arith, length-map kinds K.figures, x.few, x.held.ok.0)) (each_lawful K.figures K.lawful kinds) };
 
     fn count(&self) -> u8 {
         self.held.len() as u8
@@ -86,7 +90,7 @@ impl<K: Kind> DelayModel for Kinds<K> {
         ensures output_step { result.1 ≡ (kinds_meaning (map K.figures self.now.held.items)).output_step kind step }
         ensures rule { (held : K) → slice_get self.now.held.items kind ≡ Some held → step ≤ last_step → K.Rule held step result }
     {
-        match self.held.get(usize::from(kind)) {
+        match self.get(kind) {
             Some(held) if step <= LAST_STEP => held.figures(step),
             _ => (0, 0),
         }

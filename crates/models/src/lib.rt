@@ -9,7 +9,7 @@ pub use either;
 pub mod faults;
 pub mod fixed;
 mod interpolation;
-pub mod kinds;
+mod kinds;
 pub mod point;
 mod point_tests;
 pub mod points;

@@ -1,32 +1,15 @@
 // A model whose kinds are given by points.
 ghost use Rattle.std.specs.Prelude.{◌≡◌, ◌<◌, ◌≤◌, [], length, MatchOption, slice_index_or};
 ghost use Rattle.models.specs.Calls.{kinds_in, PointsAdded};
-ghost use Rattle.models.specs.Curves.{points_of};
-ghost use Rattle.models.specs.Kinds.{figures_at, Interpolates};
-ghost use Rattle.models.specs.Meanings.{curve_lawful, curve_follows};
 
 use crate::curve::Curve;
 use crate::faults::ModelFault;
-use crate::kinds::{Kind, Kinds};
+use crate::kinds::Kinds;
 use crate::point::Point;
-
-impl Kind for Curve {
-    ghost figures = { λ c. figures_at (points_of c) };
-
-    ghost Rule = { λ c. Interpolates (points_of c) };
-
-    ghost lawful = { curve_lawful };
-
-    ghost follows = { curve_follows };
-
-    fn figures(&self, step: u8) -> (u32, u8) {
-        Curve::figures(self, step)
-    }
-}
 
 pub type Points = Kinds<Curve>;
 
-impl Kinds<Curve> {
+impl Points {
     // One kind more; answers its number.
     pub fn add(&mut self, points: &[Point]) -> Result<u8, ModelFault>
         ensures { PointsAdded (kinds_in self.old) points.now result (kinds_in self.new) }

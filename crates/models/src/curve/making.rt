@@ -1,15 +1,16 @@
 // A curve made of points, and read.
-ghost use Rattle.std.specs.Prelude.{◌≡◌, ◌≤◌};
+ghost use Rattle.std.specs.Prelude.{◌≡◌};
 ghost use Rattle.units.specs.Refusals.{Outcome};
-ghost use Rattle.units.specs.Steps.{last_step};
 ghost use Rattle.models.specs.Curves.{points_of};
 ghost use Rattle.models.specs.Faults.{refusal_of};
-ghost use Rattle.models.specs.Kinds.{figures_at};
+ghost use Rattle.models.specs.Kinds.{figures_at, Interpolates};
+ghost use Rattle.models.specs.Meanings.{curve_lawful, curve_interpolates};
 ghost use Rattle.models.specs.PointRows.{point_rows};
 
 use super::Curve;
 use crate::faults::ModelFault;
 use crate::interpolation::tabulate;
+use crate::kinds::Kind;
 use crate::point::Point;
 use crate::point_tests::test_points;
 use arrayvec::ArrayVec;
@@ -31,12 +32,18 @@ impl Curve {
     {
         &self.points
     }
+}
 
-    // The delay and the output step at a step.
-    pub fn figures(&self, step: u8) -> (u32, u8)
-        requires { step ≤ last_step }
-        ensures { result ≡ figures_at (points_of self.now) step }
-    {
-        self.figures[step as usize]
+impl Kind for Curve {
+    ghost figures = { λ c. figures_at (points_of c) };
+
+    ghost Rule = { λ c. Interpolates (points_of c) };
+
+    ghost lawful = { curve_lawful };
+
+    ghost follows_rule = { curve_interpolates };
+
+    fn figures(&self, step: u8) -> (u32, u8) {
+        self.figures[usize::from(step)]
     }
 }
