@@ -82,6 +82,9 @@ kinds_meaning kinds = record {
 abbrev pub points_meaning : List (List Point) → Meaning
 points_meaning kinds = kinds_meaning (map figures_at kinds)
 
--- a kind of fixed figures is its delay and its output step
+-- a kind of fixed figures is its delay and its output step, at every step
+abbrev pub fixed_figures : ℕ × ℕ → ℕ → ℕ × ℕ
+fixed_figures kind step = kind
+
 abbrev pub fixed_meaning : List (ℕ × ℕ) → Meaning
-fixed_meaning kinds = kinds_meaning (map (λ kind step. kind) kinds)
+fixed_meaning kinds = kinds_meaning (map fixed_figures kinds)

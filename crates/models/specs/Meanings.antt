@@ -9,7 +9,7 @@ use Rattle.models.specs.declared.fixed.kind.FixedKind.{FixedKind}
 use Rattle.models.specs.Curves.{points_of}
 use Rattle.models.specs.FixedKinds.{figures_of}
 use Rattle.models.specs.Derating.{derated}
-use Rattle.models.specs.Kinds.{point_delay, point_output_step, figures_at, Interpolates, no_figures, kinds_meaning}
+use Rattle.models.specs.Kinds.{point_delay, point_output_step, figures_at, Interpolates, no_figures, kinds_meaning, fixed_figures}
 use Rattle.models.specs.Meaning.{Meaning, LawfulFigure, LawfulKind, Lawful, max_kinds, max_delay, where_held}
 use Rattle.models.specs.Between.{div_rises, interpolated_rises, interpolated_at_most, interpolated_between}
 
@@ -58,10 +58,10 @@ derated_lawful percent m l = record {
 
 -- kinds whose figures are lawful make a lawful model
 
-pub each_lawful : {K : Type 0} (figures : K → ℕ → ℕ × ℕ) → ((x : K) → LawfulKind (figures x)) → (kinds : List K) (k : ℕ) → LawfulKind (slice_index_or (map figures kinds) k no_figures)
-each_lawful figures law [] k = record { delay_fits = λ s l. zero-le; output_step_fits = λ s l. zero-le; delay_rises = λ s t h i. zero-le; output_step_rises = λ s t h i. zero-le }
-each_lawful figures law (x ∷ kinds) zero = law x
-each_lawful figures law (x ∷ kinds) (suc k) = each_lawful figures law kinds k
+pub each_lawful : {K G : Type 0} (given : K → G) (figures : G → ℕ → ℕ × ℕ) → ((x : K) → LawfulKind (figures (given x))) → (kinds : List K) (k : ℕ) → LawfulKind (slice_index_or (map figures (map given kinds)) k no_figures)
+each_lawful given figures law [] k = record { delay_fits = λ s l. zero-le; output_step_fits = λ s l. zero-le; delay_rises = λ s t h i. zero-le; output_step_rises = λ s t h i. zero-le }
+each_lawful given figures law (x ∷ kinds) zero = law x
+each_lawful given figures law (x ∷ kinds) (suc k) = each_lawful given figures law kinds k
 
 pub kinds_lawful : (kinds : List (ℕ → ℕ × ℕ)) → length kinds ≤ max_kinds → ((k : ℕ) → LawfulKind (slice_index_or kinds k no_figures)) → Lawful (kinds_meaning kinds)
 kinds_lawful kinds few law = record {
@@ -84,7 +84,7 @@ curve_interpolates c s le i l lo hi = (
   interpolated_between point_output_step (points_of c) i s c.steps c.output_steps l lo hi,
 )
 
-pub fixed_lawful : (kind : FixedKind) → LawfulKind (λ step. figures_of kind)
+pub fixed_lawful : (kind : FixedKind) → LawfulKind (fixed_figures (figures_of kind))
 fixed_lawful kind = record {
   delay_fits = λ s l. kind.delay_fits;
   output_step_fits = λ s l. kind.output_step_fits;

@@ -1,7 +1,8 @@
 // A model whose kinds have one delay and one output step each.
-ghost use Rattle.std.specs.Prelude.{◌≡◌, refl};
+ghost use Rattle.std.specs.Prelude.{◌≡◌, ℕ, refl};
 ghost use Rattle.models.specs.Calls.{fixed_in, FixedAdded};
 ghost use Rattle.models.specs.FixedKinds.{figures_of};
+ghost use Rattle.models.specs.Kinds.{fixed_figures};
 ghost use Rattle.models.specs.Meanings.{fixed_lawful};
 
 mod kind;
@@ -12,9 +13,13 @@ use kind::FixedKind;
 use units::steps::LAST_STEP;
 
 impl Kind for FixedKind {
-    ghost figures = { λ kind step. figures_of kind };
+    ghost Given = { ℕ × ℕ };
 
-    ghost Rule = { λ kind step figures. figures ≡ figures_of kind };
+    ghost given = { figures_of };
+
+    ghost figures = { fixed_figures };
+
+    ghost Rule = { λ given step figures. figures ≡ given };
 
     ghost lawful = { fixed_lawful };
 

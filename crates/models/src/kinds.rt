@@ -1,5 +1,5 @@
 // Kinds of one sort, held as a delay model.
-ghost use Rattle.std.specs.Prelude.{◌≡◌, ℕ, ◌<◌, ◌≤◌, [], ◌∷◌, ◌++◌, map, Some, option_copied, IfOk, slice_get, vec_len, vec_capacity};
+ghost use Rattle.std.specs.Prelude.{◌≡◌, ℕ, ◌<◌, ◌≤◌, [], ◌∷◌, ◌++◌, map, None, Some, MatchOption, IfOk, slice_get, vec_len, vec_capacity};
 ghost use Rattle.std.proofs.Common.{arith};
 ghost use Rattle.std.proofs.lemmas.List.{length-map};
 ghost use Rattle.units.specs.Refusals.{Outcome};
@@ -14,21 +14,25 @@ use crate::faults::ModelFault;
 use std::alloc::{AllocError, Global};
 use units::steps::LAST_STEP;
 
-// A sort of kind: its figures at each step, and the rule that they follow.
+// A sort of kind: what a kind is given by, the figures at each step that follow, and the rule that they keep.
 pub trait Kind: Drop {
-    ghost figures: { Self → ℕ → ℕ × ℕ };
+    ghost Given: { Type 0 };
 
-    ghost Rule: { Self → ℕ → ℕ × ℕ → Type 0 };
+    ghost given: { Self → Given };
+
+    ghost figures: { Given → ℕ → ℕ × ℕ };
+
+    ghost Rule: { Given → ℕ → ℕ × ℕ → Type 0 };
 
     // The delay and the output step at a step.
     fn figures(&self, step: u8) -> (u32, u8)
         requires { step ≤ last_step }
-        ensures { result ≡ figures self.now step };
+        ensures { result ≡ figures (given self.now) step };
 
     // Ranges, and no figure that falls as the step rises.
-    ghost lawful: { (x : Self) → LawfulKind (figures x) };
+    ghost lawful: { (x : Self) → LawfulKind (figures (given x)) };
 
-    ghost follows_rule: { (x : Self) (step : ℕ) → step ≤ last_step → Rule x step (figures x step) };
+    ghost follows_rule: { (x : Self) (step : ℕ) → step ≤ last_step → Rule (given x) step (figures (given x) step) };
 }
 
 // A model of at most 32 kinds, with room for all of them from the start.
@@ -68,27 +72,27 @@ impl<K: Kind> Kinds<K> {
 
     // The kind of a number, if it is held.
     pub(crate) fn get(&self, kind: u8) -> Option<&K>
-        ensures { option_copied result ≡ slice_get self.now.held.items kind }
+        ensures { MatchOption result (slice_get (map K.given self.now.held.items) kind ≡ None) (λ held. slice_get (map K.given self.now.held.items) kind ≡ Some (K.given held.now)) }
     {
         self.held.get(usize::from(kind))
     }
 }
 
 impl<K: Kind> DelayModel for Kinds<K> {
-    ghost meaning = { λ kinds. kinds_meaning (map K.figures kinds.held.items) };
+    ghost meaning = { λ kinds. kinds_meaning (map K.figures (map K.given kinds.held.items)) };
 
     ghost lawful = { λ x.
         let kinds = x.held.items in
-        kinds_lawful (map K.figures kinds) (omega (arith, length-map kinds K.figures, x.few, x.held.ok.0)) (each_lawful K.figures K.lawful kinds) };
+        kinds_lawful (map K.figures (map K.given kinds)) (omega (arith, length-map (map K.given kinds) K.figures, length-map kinds K.given, x.few, x.held.ok.0)) (each_lawful K.given K.figures K.lawful kinds) };
 
     fn count(&self) -> u8 {
         self.held.len() as u8
     }
 
     fn figures(&self, kind: u8, step: u8) -> (u32, u8)
-        ensures delay { result.0 ≡ (kinds_meaning (map K.figures self.now.held.items)).delay kind step }
-        ensures output_step { result.1 ≡ (kinds_meaning (map K.figures self.now.held.items)).output_step kind step }
-        ensures rule { (held : K) → slice_get self.now.held.items kind ≡ Some held → step ≤ last_step → K.Rule held step result }
+        ensures delay { result.0 ≡ (kinds_meaning (map K.figures (map K.given self.now.held.items))).delay kind step }
+        ensures output_step { result.1 ≡ (kinds_meaning (map K.figures (map K.given self.now.held.items))).output_step kind step }
+        ensures rule { (given : K.Given) → slice_get (map K.given self.now.held.items) kind ≡ Some given → step ≤ last_step → K.Rule given step result }
     {
         match self.get(kind) {
             Some(held) if step <= LAST_STEP => held.figures(step),

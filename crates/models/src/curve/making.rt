@@ -1,6 +1,7 @@
 // A curve made of points, and read.
-ghost use Rattle.std.specs.Prelude.{◌≡◌};
+ghost use Rattle.std.specs.Prelude.{◌≡◌, List};
 ghost use Rattle.units.specs.Refusals.{Outcome};
+ghost use Rattle.models.specs.declared.point.Point.{Point};
 ghost use Rattle.models.specs.Curves.{points_of};
 ghost use Rattle.models.specs.Faults.{refusal_of};
 ghost use Rattle.models.specs.Kinds.{figures_at, Interpolates};
@@ -35,9 +36,13 @@ impl Curve {
 }
 
 impl Kind for Curve {
-    ghost figures = { λ c. figures_at (points_of c) };
+    ghost Given = { List Point };
 
-    ghost Rule = { λ c. Interpolates (points_of c) };
+    ghost given = { points_of };
+
+    ghost figures = { figures_at };
+
+    ghost Rule = { Interpolates };
 
     ghost lawful = { curve_lawful };
 
