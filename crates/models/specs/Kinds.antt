@@ -82,6 +82,14 @@ kinds_meaning kinds = record {
 abbrev pub points_meaning : List (List Point) → Meaning
 points_meaning kinds = kinds_meaning (map figures_at kinds)
 
+-- kinds of fixed figures, each a delay and an output step, with each figure in its range
+
+abbrev pub FixedDelaysFit : List (ℕ × ℕ) → Type 0
+FixedDelaysFit kinds = (k : ℕ) → (slice_index_or kinds k (0, 0)).0 ≤ max_delay
+
+abbrev pub FixedOutputStepsFit : List (ℕ × ℕ) → Type 0
+FixedOutputStepsFit kinds = (k : ℕ) → (slice_index_or kinds k (0, 0)).1 ≤ last_step
+
 -- a kind of fixed figures is its delay and its output step, at every step
 abbrev pub fixed_figures : ℕ × ℕ → ℕ → ℕ × ℕ
 fixed_figures kind step = kind

@@ -3,7 +3,7 @@ ghost use Rattle.std.specs.Prelude.{◌≡◌, ℕ, refl};
 ghost use Rattle.models.specs.Calls.{fixed_in, FixedAdded};
 ghost use Rattle.models.specs.FixedKinds.{figures_of};
 ghost use Rattle.models.specs.Kinds.{fixed_figures};
-ghost use Rattle.models.specs.Meanings.{fixed_lawful};
+ghost use Rattle.models.specs.Meanings.{fixed_kind_lawful};
 
 mod kind;
 
@@ -21,7 +21,7 @@ impl Kind for FixedKind {
 
     ghost Rule = { λ given step figures. figures ≡ given };
 
-    ghost lawful = { fixed_lawful };
+    ghost lawful = { λ kind. fixed_kind_lawful (figures_of kind) kind.delay_fits kind.output_step_fits };
 
     ghost follows_rule = { λ kind step l. refl };
 

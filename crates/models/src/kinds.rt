@@ -1,13 +1,12 @@
 // Kinds of one sort, held as a delay model.
 ghost use Rattle.std.specs.Prelude.{◌≡◌, ℕ, ◌<◌, ◌≤◌, [], ◌∷◌, ◌++◌, map, None, Some, MatchOption, IfOk, slice_get, vec_len, vec_capacity};
 ghost use Rattle.std.proofs.Common.{arith};
-ghost use Rattle.std.proofs.lemmas.List.{length-map};
 ghost use Rattle.units.specs.Refusals.{Outcome};
 ghost use Rattle.units.specs.Steps.{last_step};
 ghost use Rattle.models.specs.Faults.{refusal_of, full_row};
 ghost use Rattle.models.specs.Kinds.{kinds_meaning};
 ghost use Rattle.models.specs.Meaning.{LawfulKind, max_kinds};
-ghost use Rattle.models.specs.Meanings.{each_lawful, kinds_lawful};
+ghost use Rattle.models.specs.Meanings.{given_kinds_lawful};
 
 use crate::delay_model::{DelayModel, MAX_KINDS};
 use crate::faults::ModelFault;
@@ -81,9 +80,7 @@ impl<K: Kind> Kinds<K> {
 impl<K: Kind> DelayModel for Kinds<K> {
     ghost meaning = { λ kinds. kinds_meaning (map K.figures (map K.given kinds.held.items)) };
 
-    ghost lawful = { λ x.
-        let kinds = x.held.items in
-        kinds_lawful (map K.figures (map K.given kinds)) (omega (arith, length-map (map K.given kinds) K.figures, length-map kinds K.given, x.few, x.held.ok.0)) (each_lawful K.given K.figures K.lawful kinds) };
+    ghost lawful = { λ x. given_kinds_lawful K.given K.figures K.lawful x.held.items (omega (arith, x.few, x.held.ok.0)) };
 
     fn count(&self) -> u8 {
         self.held.len() as u8

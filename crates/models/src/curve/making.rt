@@ -5,7 +5,7 @@ ghost use Rattle.models.specs.declared.point.Point.{Point};
 ghost use Rattle.models.specs.Curves.{points_of};
 ghost use Rattle.models.specs.Faults.{refusal_of};
 ghost use Rattle.models.specs.Kinds.{figures_at, Interpolates};
-ghost use Rattle.models.specs.Meanings.{curve_lawful, curve_interpolates};
+ghost use Rattle.models.specs.Meanings.{sound_curve, sound_lawful, sound_interpolates};
 ghost use Rattle.models.specs.PointRows.{point_rows};
 
 use super::Curve;
@@ -44,9 +44,9 @@ impl Kind for Curve {
 
     ghost Rule = { Interpolates };
 
-    ghost lawful = { curve_lawful };
+    ghost lawful = { λ c. sound_lawful (points_of c) (sound_curve c) };
 
-    ghost follows_rule = { curve_interpolates };
+    ghost follows_rule = { λ c step l. sound_interpolates (points_of c) step (sound_curve c) };
 
     fn figures(&self, step: u8) -> (u32, u8) {
         self.figures[usize::from(step)]
