@@ -1,12 +1,11 @@
 -- From what the tests of points found to the first row of a kind that holds. Assumes nothing.
-use Rattle.std.proofs.Common.{◌≡◌, ℕ, suc, ◌-◌, ◌<◌, ◌≤◌, Bool, true, false, cond, List, [], ◌∷◌, ◌++◌, length, Option, Some, None, refl, ap, ◌∙◌, arith}
+use Rattle.std.proofs.Common.{◌≡◌, ℕ, suc, ◌-◌, ◌<◌, ◌≤◌, Bool, true, false, cond, List, [], ◌∷◌, ◌++◌, length, Some, None, refl, ◌∙◌, arith}
 use Rattle.std.specs.Option.{option_or}
 use Rattle.std.proofs.lemmas.Bool.{leb-false, ltb-false}
 use Rattle.std.proofs.lemmas.Bool.Decides.{nat_tests}
-use Rattle.units.specs.declared.refusals.Refusal.{Refusal}
 use Rattle.units.specs.Refusals.{Row, first}
 use Rattle.units.specs.Steps.{last_step}
-use Rattle.units.proofs.FirstRow.{first_past, first_found, none_holds, first_holds}
+use Rattle.units.proofs.FirstRow.{none_holds, first_holds}
 use Rattle.models.specs.declared.point.Point.{Point}
 use Rattle.models.specs.Faults.{model_refusal}
 use Rattle.models.specs.Kinds.{point_step, point_delay, point_output_step, point_at, RisesBy, AtMost}

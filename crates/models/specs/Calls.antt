@@ -1,6 +1,6 @@
 -- What the calls on models answer and leave. Assumes nothing.
 use Rattle.std.specs.Prelude.{◌≡◌, ℕ, List, [], ◌∷◌, ◌++◌, map, length, vec_items, Result, nat_lt}
-use Rattle.units.specs.Refusals.{Row, Outcome}
+use Rattle.units.specs.Refusals.{Outcome}
 use Rattle.units.specs.Steps.{last_step}
 use Rattle.models.specs.declared.faults.ModelFault.{ModelFault}
 use Rattle.models.specs.declared.point.Point.{Point}

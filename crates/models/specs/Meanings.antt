@@ -9,10 +9,8 @@ use Rattle.units.specs.Senses.{NeverFalls}
 use Rattle.units.specs.Steps.{last_step}
 use Rattle.models.specs.declared.point.Point.{Point}
 use Rattle.models.specs.declared.curve.Curve.{Curve}
-use Rattle.models.specs.declared.fixed.kind.FixedKind.{FixedKind}
 use Rattle.models.specs.Curves.{points_of}
 use Rattle.models.specs.Derating.{derated}
-use Rattle.models.specs.FixedKinds.{figures_of}
 use Rattle.models.specs.Kinds.{point_step, point_delay, point_output_step, RisesBy, AtMost, DelaysFit, figures_at, Interpolates, no_figures, kinds_meaning, points_meaning, FixedDelaysFit, FixedOutputStepsFit, fixed_figures, fixed_meaning}
 use Rattle.models.specs.Meaning.{Meaning, LawfulFigure, Lawful, LawfulKind, max_kinds, max_delay, where_held}
 use Rattle.models.specs.Between.{div_rises, interpolated_rises, interpolated_at_most, interpolated_between}

@@ -12,7 +12,8 @@ use units::steps::STEPS;
 // The part of the way from one figure up to another, rounded down.
 fn part_way(low: u32, high: u32, past: u32, span: u32) -> u32
     requires rises { (low ≤ high) × (high ≤ max_delay) }
-    requires past { (past ≤ span) × ((0 < span) × (span ≤ last_step)) }
+    requires past { (past ≤ span) × (past ≤ last_step) }
+    requires span { 0 < span }
     ensures value { result ≡ low + (high - low) * past / span }
     ensures bound { result ≤ high }
 {

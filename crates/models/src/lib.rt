@@ -5,7 +5,6 @@ mod choice;
 mod curve;
 pub mod delay_model;
 pub mod derated;
-pub use either;
 pub mod faults;
 pub mod fixed;
 mod interpolation;
@@ -13,3 +12,6 @@ mod kinds;
 pub mod point;
 mod point_tests;
 pub mod points;
+
+// `Either` of two models is a model too.
+pub use either;

@@ -49,7 +49,10 @@ pub fn test_points(points: &[Point]) -> Result<(), ModelFault>
     if let Some(i) = first_failing(points, |before, here| here.output_step < before.output_step) {
         return Err(ModelFault::OutputStepFalls(i));
     }
-    if let Some(i) = points.iter().position(|point| point.output_step > LAST_STEP) {
+    if let Some(i) = points
+        .iter()
+        .position(|point| point.output_step > LAST_STEP)
+    {
         return Err(ModelFault::OutputStepTooLarge(i));
     }
     Ok(())

@@ -1,4 +1,3 @@
-use Rattle.std.proofs.Common.{rules}
 use Rattle.models.specs.Kinds.{point_delay, point_output_step}
 use Rattle.models.specs.Between.{interpolated_first}
 use Rattle.models.proofs.interpolation.interpolate.Goals as goal
