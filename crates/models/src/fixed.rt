@@ -26,7 +26,7 @@ impl Kind for FixedKind {
     ghost follows_rule = { λ kind step l. refl };
 
     fn figures(&self, _step: u8) -> (u32, u8) {
-        (u32::from(self.delay), self.output_step)
+        (self.delay, self.output_step)
     }
 }
 
@@ -41,7 +41,10 @@ impl Fixed {
         if output_step > LAST_STEP {
             return Err(ModelFault::OutputStepTooLarge(0));
         }
-        self.push(FixedKind { delay, output_step });
+        self.push(FixedKind {
+            delay: u32::from(delay),
+            output_step,
+        });
         Ok(number)
     }
 }
