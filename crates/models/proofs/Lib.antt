@@ -1,2 +1,3 @@
-pub mod FullModel
+pub mod MadeArrays
+pub mod ReachingPoints
 pub mod TestedPoints

@@ -1,23 +1,25 @@
 -- What the calls on models answer and leave. Assumes nothing.
-use Rattle.std.specs.Prelude.{◌≡◌, ℕ, List, [], ◌∷◌, ◌++◌, length, vec_items, Result, nat_le, nat_lt}
-use Rattle.units.specs.Refusals.{Row, Outcome}
+use Rattle.std.specs.Prelude.{◌≡◌, ℕ, List, [], ◌∷◌, ◌++◌, map, length, vec_items, Result, nat_lt}
+use Rattle.units.specs.Refusals.{Outcome}
 use Rattle.units.specs.Steps.{last_step}
 use Rattle.models.specs.declared.faults.ModelFault.{ModelFault}
 use Rattle.models.specs.declared.point.Point.{Point}
-use Rattle.models.specs.declared.points.Points.{Points}
+use Rattle.models.specs.declared.curve.Curve.{Curve}
+use Rattle.models.specs.declared.fixed.kind.FixedKind.{FixedKind}
+use Rattle.models.specs.declared.kinds.Kinds.{Kinds}
 use Rattle.models.specs.Curves.{kinds_of}
-use Rattle.models.specs.Faults.{row, refusal_of}
+use Rattle.models.specs.FixedKinds.{figures_of}
+use Rattle.models.specs.Faults.{row, full_row, refusal_of}
 use Rattle.models.specs.Derating.{max_percent}
-use Rattle.models.specs.Meaning.{max_kinds}
 use Rattle.models.specs.PointRows.{point_rows}
 
 -- the points of each kind of a model, in the order of adding
-abbrev pub kinds_in : Points → List (List Point)
-kinds_in p = kinds_of (vec_items p.curves)
+abbrev pub kinds_in : Kinds Curve → List (List Point)
+kinds_in p = kinds_of (vec_items p.held)
 
--- the model is full
-abbrev pub full_row : ℕ → Row
-full_row count = row (nat_le max_kinds count) 1 max_kinds
+-- the delay and the output step of each kind of a model of fixed figures
+abbrev pub fixed_in : Kinds FixedKind → List (ℕ × ℕ)
+fixed_in f = map figures_of (vec_items f.held)
 
 -- a kind added by its points: the kinds before, the points, the answer, the kinds after
 abbrev pub PointsAdded : List (List Point) → List Point → Result ℕ ModelFault → List (List Point) → Type 0

@@ -1,5 +1,5 @@
 -- What each refusal of a model names: layer, number and place. Assumes nothing.
-use Rattle.std.specs.Prelude.{ℕ, Bool}
+use Rattle.std.specs.Prelude.{ℕ, Bool, nat_le}
 use Rattle.units.specs.declared.refusals.Refusal.{Refusal}
 use Rattle.units.specs.declared.refusals.Layer.TheVariants.{Model}
 use Rattle.units.specs.Refusals.{Row}
@@ -23,3 +23,7 @@ refusal_of (DelayFalls point) = model_refusal 5 point
 refusal_of (OutputStepFalls point) = model_refusal 6 point
 refusal_of (OutputStepTooLarge point) = model_refusal 7 point
 refusal_of (Percent percent) = model_refusal 8 percent
+
+-- the model is full
+abbrev pub full_row : ℕ → Row
+full_row count = row (nat_le max_kinds count) 1 max_kinds

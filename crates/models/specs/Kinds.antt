@@ -1,5 +1,5 @@
 -- Kinds given by points, and kinds of fixed figures: what each means. Assumes nothing.
-use Rattle.std.specs.Prelude.{◌≡◌, ℕ, suc, ◌+◌, ◌-◌, ◌*◌, ◌/◌, ◌<◌, ◌≤◌, cond, List, [], ◌∷◌, length, get_or, nat_le, slice_index_or}
+use Rattle.std.specs.Prelude.{◌≡◌, ℕ, suc, ◌+◌, ◌-◌, ◌*◌, ◌/◌, ◌<◌, ◌≤◌, cond, List, [], ◌∷◌, map, length, nat_le, slice_index_or}
 use Rattle.units.specs.Steps.{last_step}
 use Rattle.models.specs.declared.point.Point.{Point}
 use Rattle.models.specs.Meaning.{Meaning, max_delay, where_held}
@@ -67,25 +67,32 @@ pub record Reaches (ps : List Point) (s r : ℕ) : Type 0 where
   pub below : point_step (point_at ps (r - 1)) ≤ s
   pub first : (j : ℕ) → 1 ≤ j → j < r → point_step (point_at ps j) < s
 
-abbrev pub points_meaning : List (List Point) → Meaning
-points_meaning kinds = record {
+-- a kind that is not held
+abbrev pub no_figures : ℕ → ℕ × ℕ
+no_figures step = (0, 0)
+
+-- what kinds mean that are given by their figures at each step
+abbrev pub kinds_meaning : List (ℕ → ℕ × ℕ) → Meaning
+kinds_meaning kinds = record {
   count = length kinds;
-  delay = where_held (length kinds) (λ k s. interpolated point_delay (slice_index_or kinds k []) s);
-  output_step = where_held (length kinds) (λ k s. interpolated point_output_step (slice_index_or kinds k []) s);
+  delay = where_held (length kinds) (λ k s. (slice_index_or kinds k no_figures s).0);
+  output_step = where_held (length kinds) (λ k s. (slice_index_or kinds k no_figures s).1);
 }
+
+abbrev pub points_meaning : List (List Point) → Meaning
+points_meaning kinds = kinds_meaning (map figures_at kinds)
 
 -- kinds of fixed figures, each a delay and an output step, with each figure in its range
 
 abbrev pub FixedDelaysFit : List (ℕ × ℕ) → Type 0
-FixedDelaysFit kinds = (k : ℕ) → (get_or kinds k (0, 0)).0 ≤ max_delay
+FixedDelaysFit kinds = (k : ℕ) → (slice_index_or kinds k (0, 0)).0 ≤ max_delay
 
 abbrev pub FixedOutputStepsFit : List (ℕ × ℕ) → Type 0
-FixedOutputStepsFit kinds = (k : ℕ) → (get_or kinds k (0, 0)).1 ≤ last_step
+FixedOutputStepsFit kinds = (k : ℕ) → (slice_index_or kinds k (0, 0)).1 ≤ last_step
 
--- a kind of fixed figures is its delay and its output step
+-- a kind of fixed figures is its delay and its output step, at every step
+abbrev pub fixed_figures : ℕ × ℕ → ℕ → ℕ × ℕ
+fixed_figures kind step = kind
+
 abbrev pub fixed_meaning : List (ℕ × ℕ) → Meaning
-fixed_meaning kinds = record {
-  count = length kinds;
-  delay = where_held (length kinds) (λ k s. (get_or kinds k (0, 0)).0);
-  output_step = where_held (length kinds) (λ k s. (get_or kinds k (0, 0)).1);
-}
+fixed_meaning kinds = kinds_meaning (map fixed_figures kinds)

@@ -3,6 +3,7 @@ pub mod Faults
 pub mod Kinds
 pub mod PointRows
 pub mod Curves
+pub mod FixedKinds
 pub mod Derating
 pub mod Calls
 pub mod Meanings

@@ -30,3 +30,10 @@ pub record Lawful (m : Meaning) : Type 0 where
 -- the figure where the kind is held and the step is not past the last, else 0
 abbrev pub where_held : ℕ → (ℕ → ℕ → ℕ) → ℕ → ℕ → ℕ
 where_held count figure kind step = cond (nat_lt kind count) (cond (nat_le step last_step) (figure kind step) 0) 0
+
+-- the figures of a kind at each step lie in their ranges, and never fall
+pub record LawfulKind (figures : ℕ → ℕ × ℕ) : Type 0 where
+  pub delay_fits : (step : ℕ) → step ≤ last_step → (figures step).0 ≤ max_delay
+  pub output_step_fits : (step : ℕ) → step ≤ last_step → (figures step).1 ≤ last_step
+  pub delay_rises : NeverFalls last_step (λ step. (figures step).0)
+  pub output_step_rises : NeverFalls last_step (λ step. (figures step).1)

@@ -34,7 +34,7 @@ impl<M> Derated<M> {
         ensures model { self.new.model ≡ self.old.model }
         ensures percent { PercentSet self.old.percent percent result self.new.percent }
     {
-        if percent < 1 || percent > MAX_PERCENT {
+        if !(1..=MAX_PERCENT).contains(&percent) {
             return Err(ModelFault::Percent(percent));
         }
         self.percent = percent;

@@ -3,7 +3,7 @@ ghost use Rattle.std.specs.Prelude.{◌≡◌, Bool, MatchOption};
 ghost use Rattle.units.specs.Refusals.{Outcome};
 ghost use Rattle.models.specs.declared.point.Point.{Point};
 ghost use Rattle.models.specs.Faults.{refusal_of};
-ghost use Rattle.models.specs.PointRows.{step_not_above, delay_falls, output_step_falls, output_step_too_large, NoneFails, FirstFails, point_rows, WellFormed};
+ghost use Rattle.models.specs.PointRows.{NoneFails, FirstFails, point_rows, WellFormed};
 
 use crate::faults::ModelFault;
 use crate::point::Point;
@@ -14,64 +14,16 @@ pub const MIN_POINTS: usize = 2;
 
 pub const MAX_POINTS: usize = 8;
 
-// A test of a point against the one before it.
-pub trait PointTest {
-    ghost test: { Point → Point → Bool };
-
-    fn fails(before: &Point, here: &Point) -> bool
-        ensures { result ≡ test before.now here.now };
-}
-
-pub struct StepNotAbove;
-
-impl PointTest for StepNotAbove {
-    ghost test = { step_not_above };
-
-    fn fails(before: &Point, here: &Point) -> bool {
-        here.step <= before.step
-    }
-}
-
-pub struct DelayFalls;
-
-impl PointTest for DelayFalls {
-    ghost test = { delay_falls };
-
-    fn fails(before: &Point, here: &Point) -> bool {
-        here.delay < before.delay
-    }
-}
-
-pub struct OutputStepFalls;
-
-impl PointTest for OutputStepFalls {
-    ghost test = { output_step_falls };
-
-    fn fails(before: &Point, here: &Point) -> bool {
-        here.output_step < before.output_step
-    }
-}
-
-pub struct OutputStepTooLarge;
-
-impl PointTest for OutputStepTooLarge {
-    ghost test = { output_step_too_large };
-
-    fn fails(_before: &Point, here: &Point) -> bool {
-        here.output_step > LAST_STEP
-    }
-}
-
-// The first point from the one numbered `start` on that fails.
-pub fn first_failing<T: PointTest>(points: &[Point], start: usize) -> Option<usize>
-    ensures { MatchOption result (NoneFails start T.PointTest.test points.now) (λ i. FirstFails start T.PointTest.test points.now i) }
+// The first point that fails against the point before it.
+fn first_failing<F: Fn(&Point, &Point) -> bool>(points: &[Point], fails: F) -> Option<usize>
+    requires { F.IsAlwaysCallable fails }
+    ensures { (test : Point → Point → Bool) → ((before here : _) (r : Bool) → F.post fails before here r → r ≡ test before.now here.now)
+        → MatchOption result (NoneFails 1 test points.now) (λ i. FirstFails 1 test points.now i) }
 {
-    for i in start..points.len() {
-        if T::fails(&points[i.saturating_sub(1)], &points[i]) {
-            return Some(i);
-        }
-    }
-    None
+    let i = points
+        .array_windows::<2>()
+        .position(|[before, here]| fails(before, here))?;
+    Some(i + 1)
 }
 
 // Tests the points of a kind.
@@ -79,7 +31,7 @@ pub fn test_points(points: &[Point]) -> Result<(), ModelFault>
     ensures { Outcome refusal_of (point_rows points.now) result (λ _. WellFormed points.now) (Unit {0}) }
 {
     let count = points.len();
-    if count < MIN_POINTS || count > MAX_POINTS {
+    if !(MIN_POINTS..=MAX_POINTS).contains(&count) {
         return Err(ModelFault::PointCount(count));
     }
     if points[0].step != 0 {
@@ -88,16 +40,19 @@ pub fn test_points(points: &[Point]) -> Result<(), ModelFault>
     if points[count - 1].step != LAST_STEP {
         return Err(ModelFault::EndStep(count - 1));
     }
-    if let Some(i) = first_failing::<StepNotAbove>(points, 1) {
+    if let Some(i) = first_failing(points, |before, here| here.step <= before.step) {
         return Err(ModelFault::StepOrder(i));
     }
-    if let Some(i) = first_failing::<DelayFalls>(points, 1) {
+    if let Some(i) = first_failing(points, |before, here| here.delay < before.delay) {
         return Err(ModelFault::DelayFalls(i));
     }
-    if let Some(i) = first_failing::<OutputStepFalls>(points, 1) {
+    if let Some(i) = first_failing(points, |before, here| here.output_step < before.output_step) {
         return Err(ModelFault::OutputStepFalls(i));
     }
-    if let Some(i) = first_failing::<OutputStepTooLarge>(points, 0) {
+    if let Some(i) = points
+        .iter()
+        .position(|point| point.output_step > LAST_STEP)
+    {
         return Err(ModelFault::OutputStepTooLarge(i));
     }
     Ok(())

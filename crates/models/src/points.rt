@@ -1,14 +1,28 @@
 // A model whose kinds are given by points.
-ghost use Rattle.std.specs.Prelude.{◌≤◌, vec_len, vec_capacity};
-ghost use Rattle.models.specs.Meaning.{max_kinds};
+ghost use Rattle.std.specs.Prelude.{◌≡◌, ◌<◌, ◌≤◌, [], length, MatchOption, slice_index_or};
+ghost use Rattle.models.specs.Calls.{kinds_in, PointsAdded};
 
 use crate::curve::Curve;
+use crate::faults::ModelFault;
+use crate::kinds::Kinds;
+use crate::point::Point;
 
-pub mod calls;
+pub type Points = Kinds<Curve>;
 
-#[derive(Drop)]
-pub struct Points {
-    curves: Vec<Curve>,
-    ghost few: { vec_len curves ≤ max_kinds },
-    ghost room: { max_kinds ≤ vec_capacity curves },
+impl Points {
+    // One kind more; answers its number.
+    pub fn add(&mut self, points: &[Point]) -> Result<u8, ModelFault>
+        ensures { PointsAdded (kinds_in self.old) points.now result (kinds_in self.new) }
+    {
+        let number = self.next_number()?;
+        self.push(Curve::new(points)?);
+        Ok(number)
+    }
+
+    // The points of a kind; none for a kind that is not held.
+    pub fn points(&self, kind: u8) -> Option<&[Point]>
+        ensures { MatchOption result (length (kinds_in self.now) ≤ kind) (λ ps. (kind < length (kinds_in self.now)) × (ps.now ≡ slice_index_or (kinds_in self.now) kind [])) }
+    {
+        Some(self.get(kind)?.points())
+    }
 }
