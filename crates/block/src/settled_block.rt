@@ -1,12 +1,12 @@
 // A settled block, and its timing.
-ghost use Rattle.std.specs.Prelude.{◌≡◌, ◌≤◌, None, vec_len};
+ghost use Rattle.std.specs.Prelude.{◌≡◌, ◌≤◌, vec_len, None};
 ghost use Rattle.paths.specs.Blocks.{max_nets};
 ghost use Rattle.paths.specs.Cycles.{CycleAt};
 ghost use Rattle.paths.specs.Facts.{TimingFacts};
 ghost use Rattle.network.specs.Calls.{draft_block};
 ghost use Rattle.network.specs.Settling.{network_block, Settled};
 ghost use Rattle.timing.specs.Timed.{areas};
-ghost use Rattle.block.specs.Calls.{CycleFirst};
+ghost use Rattle.block.specs.Calls.{CycleFirst, TimedAfterCycles, WorstPathAnswered, NetSlacksAnswered};
 ghost use Rattle.block.specs.Faults.{refusal_of};
 
 use crate::faults::{BlockFault, TimeFault};
@@ -14,6 +14,7 @@ use models::delay_model::DelayModel;
 use network::draft::Draft;
 use network::settled::Network;
 use timing::answers::{Answer, SignalRecord};
+use timing::circuit::Circuit;
 use timing::timer;
 use units::senses::Sense;
 
@@ -61,17 +62,20 @@ impl SettledBlock {
         path: &mut [u16],
     ) -> Result<Answer, TimeFault>
         ensures cyclic { CycleFirst refusal_of (network_block self.now.network) result ((areas signals.new required.new slacks.new path.new) ≡ (areas signals.old required.old slacks.old path.old)) }
+        ensures timed { TimedAfterCycles (network_block self.now.network) (M.DelayModel.meaning model.now) S.Sense.order (areas signals.old required.old slacks.old path.old) result (areas signals.new required.new slacks.new path.new) }
+        ensures paths { WorstPathAnswered (network_block self.now.network) (M.DelayModel.meaning model.now) S.Sense.order (areas signals.new required.new slacks.new path.new) result }
+        ensures nets { NetSlacksAnswered (network_block self.now.network) (M.DelayModel.meaning model.now) S.Sense.order (areas signals.new required.new slacks.new path.new) result }
         ensures facts { CycleAt (network_block self.now.network) None → TimingFacts (network_block self.now.network) (M.DelayModel.meaning model.now) S.Sense.order }
     {
         if let Some(net) = self.network.cycle() {
             return Err(BlockFault::Cycle(net).into());
         }
-        let nets = self.network.nets();
-        let arcs = self.network.arcs();
-        let order = self.network.order();
-        let fan_out = self.network.fan_out();
-        Ok(timer::time::<M, S>(
-            model, nets, arcs, order, fan_out, signals, required, slacks, path,
-        )?)
+        let circuit = Circuit {
+            nets: self.network.nets(),
+            arcs: self.network.arcs(),
+            order: self.network.placed(),
+            fan_out: self.network.fan_out(),
+        };
+        Ok(timer::time::<M, S>(model, &circuit, signals, required, slacks, path)?)
     }
 }

@@ -1,15 +1,15 @@
 -- Required times net by net, against the topological order. Assumes nothing.
-use Rattle.std.proofs.Common.{◌≡◌, ℕ, suc, ◌-◌, ◌*◌, ◌<◌, ◌≤◌, Bool, true, false, cond, ltb, ◌⊎◌, List, length, get_or, ℤ, pos, ◌-ℤ◌, neg_ℤ, ◌≤ℤ◌, Some, None, Option, sym, refl, ap, ◌∙◌, subst, inl, inr, arith}
+use Rattle.std.proofs.Common.{◌≡◌, ℕ, suc, ◌+◌, ◌-◌, ◌*◌, ◌<◌, ◌≤◌, Bool, true, false, cond, ltb, ◌⊎◌, List, map, reverse, length, get_or, ℤ, pos, ◌-ℤ◌, neg_ℤ, ◌≤ℤ◌, ◌<ℤ◌, Some, None, Option, sym, refl, ap, ◌∙◌, subst, inl, inr, arith}
 use native.Mathlib.Decide.{ℕ_discrete}
 use borrow.Rule.Slice.PartMut.{put_mid}
-use Rattle.std.proofs.lemmas.List.{get_or_past}
+use Rattle.std.proofs.lemmas.List.{get_or_past, get_or_read, get_or-map, get_or-reverse, length-map, length-reverse}
 use Rattle.std.proofs.lemmas.Int.{ints}
 use Rattle.std.proofs.lemmas.Bool.{cases_lt, lt-ltb, le-ltb}
 use Rattle.units.specs.Senses.{Order}
 use Rattle.units.specs.Steps.{step_count, last_step}
 use Rattle.models.specs.Meaning.{Meaning, Lawful, max_delay}
 use Rattle.paths.specs.declared.blocks.Net.{Net}
-use Rattle.paths.specs.Blocks.{Block, max_nets, max_path, largest_limit, no_net, net_of, tail_of, head_of, kind_of, limit_of, Joined, LateLimitsFit, EarlyLimitsFit}
+use Rattle.paths.specs.Blocks.{Block, block, max_nets, max_path, largest_limit, no_net, net_of, tail_of, head_of, kind_of, limit_of, Joined, LateLimitsFit, EarlyLimitsFit}
 use Rattle.paths.specs.Orders.{place_of, TopologicalOrder}
 use Rattle.paths.specs.Slacks.{First, limit_at}
 use Rattle.paths.specs.ArcByArc.{RequiredTable, RequiredByArcs, RequiredByNets}
@@ -17,9 +17,12 @@ use Rattle.paths.specs.Ranges.{RequiredFits}
 use Rattle.paths.proofs.Firsts.{first_is}
 use Rattle.paths.proofs.Options.{none_is_not_some}
 use Rattle.paths.proofs.Places.{at_place}
-use Rattle.timing.specs.Areas.{figure, required_entry, required_in_area, FiguresPast}
+use Rattle.timing.specs.Areas.{none_value, figure, entry_of, required_entry, required_in_area, FiguresPast}
 use Rattle.timing.specs.Passes.{Backward}
 use Rattle.timing.specs.RequiredRows.{AsHard, HeadsReady, RequiredRow}
+use Rattle.timing.specs.declared.circuit.Circuit.{Circuit}
+use Rattle.timing.proofs.Circuits.{circuit_order}
+use Rattle.timing.proofs.Figures.{entry_stands}
 use Rattle.timing.proofs.HarderTimes.{first_same}
 use Rattle.timing.proofs.RowWrites.{RowWritten, row_written}
 
@@ -32,6 +35,9 @@ more_arcs j k r h (low, high) = (omega (arith, ints), high)
 
 one_arc_more : (k delay : ℕ) (q r : ℤ) → delay ≤ max_delay → WithinArcs k q → r ≡ q -ℤ pos delay → WithinArcs (suc k) r
 one_arc_more k delay q r short (low, high) e = (omega (arith, ints), omega (arith, ints))
+
+within_above : (k : ℕ) (r : ℤ) → k ≤ max_path → WithinArcs k r → none_value <ℤ r
+within_above k r h (low, high) = omega (arith, ints)
 
 limit_within : (k limit : ℕ) (r : ℤ) → limit ≤ largest_limit → r ≡ pos limit → WithinArcs k r
 limit_within k limit r h e = (omega (arith, ints), omega (arith, ints))
@@ -71,9 +77,24 @@ in_area nets required n s h fits =
 outside : (nets : ℕ) (required : List ℤ) (n s : ℕ) → nets ≤ n → required_in_area nets required n s ≡ None
 outside nets required n s h = ap (λ (v : Bool). cond (cond v (ltb s step_count) false) (required_entry required n s) None) (le-ltb n nets h)
 
-module _ (b : Block) (m : Meaning) (law : Lawful m) (o : Order) (order : List ℕ) (joined : Joined (length b.nets) b.arcs) (ordered : TopologicalOrder (length b.nets) b.arcs order) where
+module _ (circuit : Circuit) (m : Meaning) (law : Lawful m) (o : Order) where
+  abbrev b : Block
+  b = block circuit.nets.now circuit.arcs.now
+
   abbrev nets : ℕ
   nets = length b.nets
+
+  abbrev order : List ℕ
+  order = circuit.order.now
+
+  ordered : TopologicalOrder nets b.arcs order
+  ordered = circuit_order circuit
+
+  joined : Joined nets b.arcs
+  joined = circuit.joined
+
+  few : nets ≤ max_nets
+  few = circuit.few.0
 
   -- tables that are the same at the heads of a net's arcs require the same of it
   required_same : (R R' : RequiredTable) (n s : ℕ) → ((i u : ℕ) → i < length b.arcs → tail_of b.arcs i ≡ n → u ≤ last_step → R (head_of b.arcs i) u ≡ R' (head_of b.arcs i) u) → (r : ℤ) → RequiredByArcs b m o R n s r → RequiredByArcs b m o R' n s r
@@ -108,14 +129,14 @@ module _ (b : Block) (m : Meaning) (law : Lawful m) (o : Order) (order : List �
     head_place : (i : ℕ) → i < length b.arcs → place_of order (head_of b.arcs i) < nets
     head_place i is-arc = let within = ordered.whole (head_of b.arcs i) (joined i is-arc).1 in omega (arith, ordered.long)
 
-    heads_ready_at : nets ≤ max_nets → step_count * nets ≤ length mid → HeadsReady b.arcs net mid
-    heads_ready_at few room = record {
+    heads_ready_at : step_count * nets ≤ length mid → HeadsReady b.arcs net mid
+    heads_ready_at room = record {
       room = λ i is-arc from. let within = (joined i is-arc).1 in omega arith;
       fits = λ i is-arc from s fits r e.
-          more_arcs (nets - suc (place_of order (head_of b.arcs i))) max_path r (omega arith) (done.range (head_of b.arcs i) s r (joined i is-arc).1 (head_done i is-arc from) fits e);
+          more_arcs (nets - suc (place_of order (head_of b.arcs i))) max_path r (omega (arith, few)) (done.range (head_of b.arcs i) s r (joined i is-arc).1 (head_done i is-arc from) fits e);
     }
 
-    module _ (row is : List ℤ) (limits : (n limit : ℕ) → limit_at b o n ≡ Some limit → limit ≤ largest_limit) (required : RequiredRow b m o (required_entry mid) net row) (written : RowWritten net row mid is) where
+    module _ (row : List (Option ℤ)) (long : length row ≡ step_count) (is : List ℤ) (required : RequiredRow b m o (required_entry mid) net row) (written : RowWritten net (map entry_of row) mid is) where
       -- a net further on is another, and is left as it was
       kept : (n s : ℕ) → suc p ≤ place_of order n → s ≤ last_step → required_entry is n s ≡ required_entry mid n s
       kept n s after fits = ap figure (written.other n s (λ e. let same : place_of order n ≡ p = ap (place_of order) e ∙ net_place in omega arith) fits)
@@ -128,19 +149,11 @@ module _ (b : Block) (m : Meaning) (law : Lawful m) (o : Order) (order : List �
           let after = head_after i n is-arc from in
           in_area nets mid head s within fits ∙ sym (kept head s (omega arith) fits) ∙ sym (in_area nets is head s within fits)
 
-      here : (s : ℕ) → s ≤ last_step → required_entry is net s ≡ figure (get_or row s (pos 0))
-      here s fits = ap figure (written.here s fits)
-
-      new_row : (s : ℕ) → s ≤ last_step → First (AsHard o) (RequiredByArcs b m o (required_in_area nets is) net s) (required_entry is net s)
-      new_row s fits =
-          subst (First (AsHard o) (RequiredByArcs b m o (required_in_area nets is) net s)) (sym (here s fits))
-          (first_required (required_entry mid) (required_in_area nets is) net s (λ i u is-arc from h. sym (in_area nets mid (head_of b.arcs i) u (joined i is-arc).1 h) ∙ heads_kept net i u (omega (arith, net_place)) is-arc from h) (figure (get_or row s (pos 0))) (required s fits))
-
-      new_range : (s : ℕ) (r : ℤ) → s ≤ last_step → required_entry is net s ≡ Some r → WithinArcs (nets - suc p) r
-      new_range s r fits e = go (first_is (AsHard o) (RequiredByArcs b m o (required_entry mid) net s) (figure (get_or row s (pos 0))) (required s fits) r (sym (here s fits) ∙ e))
+      row_range : (s : ℕ) (r : ℤ) → s ≤ last_step → get_or row s None ≡ Some r → WithinArcs (nets - suc p) r
+      row_range s r fits e = go (first_is (AsHard o) (RequiredByArcs b m o (required_entry mid) net s) (get_or row s None) (required s fits) r e)
         where
           go : RequiredByArcs b m o (required_entry mid) net s r → WithinArcs (nets - suc p) r
-          go (inl (limit, el, er)) = limit_within (nets - suc p) limit r (limits net limit el) er
+          go (inl (limit, el, er)) = limit_within (nets - suc p) limit r (limit_fits b o circuit.lates circuit.earlies net limit el) er
           go (inr (i, q, is-arc, from, eq, er)) =
               let kind = kind_of b.arcs i in
               let head = head_of b.arcs i in
@@ -148,6 +161,20 @@ module _ (b : Block) (m : Meaning) (law : Lawful m) (o : Order) (order : List �
               let within = head_place i is-arc in
               let head-range = done.range head (m.output_step kind s) q (joined i is-arc).1 after (law.output_step.fits kind s) eq in
               more_arcs (suc (nets - suc (place_of order head))) (nets - suc p) r (omega arith) (one_arc_more (nets - suc (place_of order head)) (m.delay kind s) q r (law.delay.fits kind s) head-range er)
+
+      -- so the entries that are written stand for the row
+      here : (s : ℕ) → s ≤ last_step → required_entry is net s ≡ get_or row s None
+      here s fits =
+          ap figure (written.here s fits ∙ get_or-map entry_of row s None (pos 0) (omega arith))
+          ∙ entry_stands (get_or row s None) (λ r e. within_above (nets - suc p) r (omega (arith, few)) (row_range s r fits e))
+
+      new_row : (s : ℕ) → s ≤ last_step → First (AsHard o) (RequiredByArcs b m o (required_in_area nets is) net s) (required_entry is net s)
+      new_row s fits =
+          subst (First (AsHard o) (RequiredByArcs b m o (required_in_area nets is) net s)) (sym (here s fits))
+          (first_required (required_entry mid) (required_in_area nets is) net s (λ i u is-arc from h. sym (in_area nets mid (head_of b.arcs i) u (joined i is-arc).1 h) ∙ heads_kept net i u (omega (arith, net_place)) is-arc from h) (get_or row s None) (required s fits))
+
+      new_range : (s : ℕ) (r : ℤ) → s ≤ last_step → required_entry is net s ≡ Some r → WithinArcs (nets - suc p) r
+      new_range s r fits e = row_range s r fits (sym (here s fits) ∙ e)
 
       -- a net from the place on is the one of the place, or stands further on
       this_or_later : (n : ℕ) → n < nets → p ≤ place_of order n → (net ≡ n) ⊎ (suc p ≤ place_of order n)
@@ -171,34 +198,53 @@ module _ (b : Block) (m : Meaning) (law : Lawful m) (o : Order) (order : List �
       }
 
   -- before the loop no net has its row
-  pub required_none : (required : List ℤ) → RequiredFrom b m o order (length order) required required
+  pub required_none : (required : List ℤ) → RequiredFrom b m o order (length order - 0) required required
   required_none required = record {
     rows = λ n s within from-here fits. absurd (placed n within from-here);
     range = λ n s r within from-here fits e. absurd (placed n within from-here);
     past = λ i h. refl;
   }
     where
-      placed : (n : ℕ) → n < nets → ¬ (length order ≤ place_of order n)
+      placed : (n : ℕ) → n < nets → ¬ (length order - 0 ≤ place_of order n)
       placed n within h = let lt = ordered.whole n within in omega arith
 
-  -- a turn of the loop, at the place before p
-  back_one : (p : ℕ) → 0 < p → suc (p - 1) ≡ p
-  back_one p h = omega arith
+  -- a turn of the loop, when `count` nets from the order's end on have their rows
+  module _ (count n : ℕ) (was mid : List ℤ) (lt : count < length (reverse order)) (is : n ≡ get_or (reverse order) count n) (done : RequiredFrom b m o order (length order - count) was mid) where
+    abbrev p : ℕ
+    p = length order - 1 - count
 
-  pub heads_ready : (p : ℕ) (was mid : List ℤ) → nets ≤ max_nets → 0 < p → p ≤ length order → step_count * nets ≤ length mid → RequiredFrom b m o order p was mid → HeadsReady b.arcs (get_or order (p - 1) 0) mid
-  heads_ready p was mid few h le room done =
-      heads_ready_at (p - 1) was mid (omega (arith, ordered.long)) (subst (λ (k : ℕ). RequiredFrom b m o order k was mid) (sym (back_one p h)) done) few room
+    back : length order - count ≡ suc p
+    back = omega (arith, length-reverse order)
 
-  pub required_turn : (p count : ℕ) (was mid row row' : List ℤ) → LateLimitsFit b.nets → EarlyLimitsFit b.nets → 0 < p → p ≤ length order → step_count * nets ≤ length mid → count ≡ step_count → length row ≡ step_count → row' ≡ row → RequiredRow b m o (required_entry mid) (get_or order (p - 1) 0) row → RequiredFrom b m o order p was mid → RequiredFrom b m o order (p - 1) was (put_mid (step_count * get_or order (p - 1) 0) count mid row')
-  required_turn p count was mid row row' lates earlies h le room part long same required done =
-      let n = get_or order (p - 1) 0 in
-      let placed : p - 1 < nets = omega (arith, ordered.long) in
-      let within : n < nets = ordered.numbers (p - 1) (omega arith) in
-      subst (λ (v : List ℤ). RequiredFrom b m o order (p - 1) was (put_mid (step_count * n) count mid v)) (sym same)
-      (required_more (p - 1) was mid placed (subst (λ (k : ℕ). RequiredFrom b m o order k was mid) (sym (back_one p h)) done) row (put_mid (step_count * n) count mid row) (limit_fits b o lates earlies) required (row_written n count row mid part (omega arith) long))
+    placed : p < nets
+    placed = omega (arith, length-reverse order, ordered.long)
 
-  pub backward : (p : ℕ) (was is : List ℤ) → nets ≤ max_nets → p ≤ 0 → RequiredFrom b m o order p was is → Backward b m o was is
-  backward p was is few h done = record { by_nets = by_nets; range = range; past = done.past }
+    turned : get_or order p 0 ≡ n
+    turned = sym (get_or_read order p n (omega (arith, length-reverse order)) (is ∙ get_or-reverse order count n (omega (arith, length-reverse order))) 0)
+
+    done_here : RequiredFrom b m o order (suc p) was mid
+    done_here = subst (λ (k : ℕ). RequiredFrom b m o order k was mid) back done
+
+    pub turn_within : n < nets
+    turn_within = subst (λ (k : ℕ). k < nets) turned (net_within p was mid placed done_here)
+
+    pub heads_ready : step_count * nets ≤ length mid → HeadsReady b.arcs n mid
+    heads_ready room = subst (λ (k : ℕ). HeadsReady b.arcs k mid) turned (heads_ready_at p was mid placed done_here room)
+
+    pub required_turn : (k count' : ℕ) (row : List (Option ℤ)) (part : List ℤ) → step_count * nets ≤ length mid → k ≡ step_count → count' ≡ count + 1 → length row ≡ step_count → part ≡ map entry_of row → RequiredRow b m o (required_entry mid) n row → RequiredFrom b m o order (length order - count') was (put_mid (step_count * n) k mid part)
+    required_turn k count' row part room part-long counted long same required =
+        let within = net_within p was mid placed done_here in
+        let next : p ≡ length order - count' = omega arith in
+        let entries = map entry_of row in
+        let done_more = required_more p was mid placed done_here row long (put_mid (step_count * get_or order p 0) k mid entries) (subst (λ (v : ℕ). RequiredRow b m o (required_entry mid) v row) (sym turned) required)
+        (row_written (get_or order p 0) k entries mid part-long (omega arith) (length-map row entry_of ∙ long)) in
+        subst (λ (q : ℕ). RequiredFrom b m o order q was (put_mid (step_count * n) k mid part)) next
+        (subst (λ (v : List ℤ). RequiredFrom b m o order p was (put_mid (step_count * n) k mid v)) (sym same)
+        (subst (λ (v : ℕ). RequiredFrom b m o order p was (put_mid (step_count * v) k mid entries)) turned done_more))
+
+  -- after the loop every net has
+  pub backward : (p : ℕ) (was is : List ℤ) → p ≤ 0 → RequiredFrom b m o order p was is → Backward b m o was is
+  backward p was is h done = record { by_nets = by_nets; range = range; past = done.past }
     where
       by_nets : RequiredByNets b m o (required_in_area nets is)
       by_nets n s fits = elim (cases_lt n nets) [
@@ -210,4 +256,4 @@ module _ (b : Block) (m : Meaning) (law : Lawful m) (o : Order) (order : List �
       ]
 
       range : (n s : ℕ) (r : ℤ) → n < nets → s ≤ last_step → required_entry is n s ≡ Some r → RequiredFits r
-      range n s r within fits e = more_arcs (nets - suc (place_of order n)) max_path r (omega arith) (done.range n s r within (omega arith) fits e)
+      range n s r within fits e = more_arcs (nets - suc (place_of order n)) max_path r (omega (arith, few)) (done.range n s r within (omega arith) fits e)

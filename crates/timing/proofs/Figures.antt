@@ -1,11 +1,11 @@
 -- The figure that an entry of an area stands for. Assumes nothing.
-use Rattle.std.proofs.Common.{◌≡◌, ℕ, ◌^◌, ◌<◌, ◌≤◌, Bool, true, false, cond, ℤ, pos, ◌-ℤ◌, ◌≤ℤ◌, ◌<ℤ◌, Some, None, refl, arith, w32, SFits, to_z, of_z}
-use lib.Signed.{le_z, mag}
-use mir.Val.{hbits}
-use Rattle.std.proofs.lemmas.Int.{ints, to_z-of_z}
+use Rattle.std.proofs.Common.{◌≡◌, ℕ, ◌≤◌, Bool, true, false, cond, ℤ, pos, ◌-ℤ◌, ◌≤ℤ◌, ◌<ℤ◌, Some, None, Option, refl, subst, arith, w32, SFits, to_z, of_z}
+use lib.Signed.{le_z}
+use Rattle.std.proofs.lemmas.Int.{ints}
 use Rattle.models.specs.Meaning.{max_delay}
 use Rattle.paths.specs.Ranges.{RequiredFits}
-use Rattle.timing.specs.Areas.{none_value, figure}
+use Rattle.paths.proofs.Options.{none_is_not_some, some_injective}
+use Rattle.timing.specs.Areas.{none_value, figure, entry_of}
 
 -- an entry of 32 bits that does not stand for none stands for itself
 pub figure_some : (z : ℤ) → SFits w32 z → (z ≡ none_value → ⊥) → figure z ≡ Some z
@@ -22,13 +22,22 @@ figure_above z above = go (le_z z none_value) refl
     go false e = refl
     go true e = absurd (let at_most : z ≤ℤ none_value = grind (arith, ints) in omega (arith, ints))
 
--- a result of 32 bits, to its bits and back
-pub again : (z : ℤ) → mag z < 2 ^ hbits w32 → to_z w32 (of_z w32 z) ≡ z
-again z h = to_z-of_z w32 z (record { sfits = h })
+-- a figure is above what stands for none
+pub figure_is_above : (z a : ℤ) → figure z ≡ Some a → none_value <ℤ a
+figure_is_above z a = go (le_z z none_value) refl
+  where
+    go : (v : Bool) → le_z z none_value ≡ v → cond v None (Some z) ≡ Some a → none_value <ℤ a
+    go true e q = absurd (none_is_not_some a q)
+    go false e q = subst (λ (x : ℤ). none_value <ℤ x) (some_injective z a q) (grind (arith, ints))
 
--- less a delay a required time fits its type, and does not stand for none
-pub less_delay_fits : (r : ℤ) (delay : ℕ) → RequiredFits r → delay ≤ max_delay → SFits w32 (r -ℤ pos delay)
+-- the entry that stands for a figure, where the figure is above what stands for none
+pub entry_stands : (x : Option ℤ) → ((z : ℤ) → x ≡ Some z → none_value <ℤ z) → figure (entry_of x) ≡ x
+entry_stands None above = refl
+entry_stands (Some z) above = figure_above z (above z refl)
+
+-- less a delay a required time fits its type, also by its bits, and does not stand for none
+pub less_delay_fits : (r : ℤ) (delay : ℕ) → RequiredFits r → delay ≤ max_delay → SFits w32 (to_z w32 (of_z w32 r) -ℤ to_z w32 delay)
 less_delay_fits r delay (low, high) short = omega (arith, ints)
 
-pub less_delay_figure : (r : ℤ) (delay : ℕ) → RequiredFits r → delay ≤ max_delay → figure (r -ℤ pos delay) ≡ Some (r -ℤ pos delay)
-less_delay_figure r delay (low, high) short = figure_above (r -ℤ pos delay) (omega (arith, ints))
+pub less_delay_bits : (r : ℤ) (delay : ℕ) → RequiredFits r → delay ≤ max_delay → to_z w32 (of_z w32 (to_z w32 (of_z w32 r) -ℤ to_z w32 delay)) ≡ r -ℤ pos delay
+less_delay_bits r delay (low, high) short = omega (arith, ints)

@@ -4,16 +4,15 @@ use Rattle.std.proofs.lemmas.Bool.{lt-ltb, ltb-true}
 use Rattle.units.specs.Steps.{step_count, last_step}
 use Rattle.paths.specs.ArcByArc.{one_if_some, held_in}
 use Rattle.paths.proofs.CountedRows.{sum_below_same}
-use Rattle.paths.proofs.Options.{none_is_not_some, some_injective}
 use Rattle.timing.specs.declared.answers.SignalRecord.{SignalRecord}
 use Rattle.timing.specs.Areas.{record_at, held_by, held_in_area}
 use Rattle.timing.specs.Offers.{kept_below}
 
 both_inside : (x y k : Bool) (t u : ℕ) → cond (cond x y false) (cond k (Some t) None) None ≡ Some u → (x ≡ true) × (y ≡ true) × (k ≡ true) × (t ≡ u)
-both_inside true true true t u e = (refl, refl, refl, some_injective t u e)
-both_inside true true false t u e = absurd (none_is_not_some u e)
-both_inside true false k t u e = absurd (none_is_not_some u e)
-both_inside false y k t u e = absurd (none_is_not_some u e)
+both_inside true true true t u e = (refl, refl, refl, cc)
+both_inside true true false t u e = cc
+both_inside true false k t u e = cc
+both_inside false y k t u e = cc
 
 module _ (nets : ℕ) (area : List SignalRecord) where
   -- what is held is the time of a kept record

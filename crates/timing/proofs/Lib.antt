@@ -1,7 +1,9 @@
 pub mod ArcsOut
+pub mod AreaParts
 pub mod BackwardPass
 pub mod CarriedSums
 pub mod Carrying
+pub mod Circuits
 pub mod Figures
 pub mod FilledSlacks
 pub mod ForwardNets
@@ -12,6 +14,7 @@ pub mod KindRows
 pub mod LeastFigures
 pub mod Offering
 pub mod PathAnswered
+pub mod PathEnds
 pub mod RecordWrites
 pub mod RowPruning
 pub mod RowWrites

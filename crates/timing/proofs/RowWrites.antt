@@ -1,19 +1,10 @@
 -- An area of required times after the row of one net is written. Assumes nothing.
-use Rattle.std.proofs.Common.{◌≡◌, ℕ, ◌+◌, ◌*◌, ◌<◌, ◌≤◌, List, length, get_or, ℤ, pos, inl, inr, arith, rules}
+use Rattle.std.proofs.Common.{◌≡◌, ℕ, ◌*◌, ◌<◌, ◌≤◌, List, length, get_or, ℤ, pos, inl, inr, arith, rules}
 use borrow.Rule.Slice.PartMut.{put_mid}
 use Rattle.std.proofs.lemmas.List.{places}
 use Rattle.std.proofs.lemmas.Bool.{cases_lt}
 use Rattle.units.specs.Steps.{step_count, last_step}
 use Rattle.timing.specs.Areas.{place}
-
-below_part : {X : Type 0} (a k : ℕ) (xs ys : List X) (i : ℕ) (d : X) → a + k ≤ length xs → length ys ≡ k → i < a → get_or (put_mid a k xs ys) i d ≡ get_or xs i d
-below_part a k xs ys i d fit len lt = search (rules, places)
-
-in_part : {X : Type 0} (a k : ℕ) (xs ys : List X) (i : ℕ) (d : X) → a + k ≤ length xs → length ys ≡ k → i < k → get_or (put_mid a k xs ys) (a + i) d ≡ get_or ys i d
-in_part a k xs ys i d fit len lt = search (rules, places)
-
-past_part : {X : Type 0} (a k : ℕ) (xs ys : List X) (i : ℕ) (d : X) → a + k ≤ length xs → length ys ≡ k → a + k ≤ i → get_or (put_mid a k xs ys) i d ≡ get_or xs i d
-past_part a k xs ys i d fit len le = search (rules, places)
 
 -- the row of net n is written, and no other entry
 pub record RowWritten (n : ℕ) (row was is : List ℤ) : Type 0 where
@@ -23,10 +14,7 @@ pub record RowWritten (n : ℕ) (row was is : List ℤ) : Type 0 where
 
 pub row_written : (n count : ℕ) (row was : List ℤ) → count ≡ step_count → place n step_count ≤ length was → length row ≡ step_count → RowWritten n row was (put_mid (step_count * n) count was row)
 row_written n count row was e fit long = record {
-  here = λ s h. in_part (step_count * n) count was row s (pos 0) (omega arith) (omega arith) (omega arith);
-  other = λ k s ne h. elim (cases_lt k n) [
-    | inl lt ↦ below_part (step_count * n) count was row (place k s) (pos 0) (omega arith) (omega arith) (omega arith)
-    | inr ge ↦ past_part (step_count * n) count was row (place k s) (pos 0) (omega arith) (omega arith) (let above : n < k = omega arith in omega arith)
-  ];
-  past = λ i h. past_part (step_count * n) count was row i (pos 0) (omega arith) (omega arith) (omega arith);
+  here = λ s h. search (rules, places);
+  other = λ k s ne h. elim (cases_lt k n) [ inl lt ↦ search (rules, places) | inr ge ↦ (let above : n < k = omega arith in search (rules, places)) ];
+  past = λ i h. search (rules, places);
 }

@@ -1,59 +1,66 @@
 -- A whole timing from its passes: without a complete path, and with one. Assumes nothing.
-use Rattle.std.proofs.Common.{◌≡◌, ℕ, ◌*◌, ◌≤◌, List, length, take, ℤ, Some, None, sym, refl, ap, subst, arith, w32, SFits, to_z, of_z}
-use Rattle.std.proofs.lemmas.Int.{to_z-of_z}
+use Rattle.std.proofs.Common.{◌≡◌, ℕ, ◌*◌, ◌<◌, ◌≤◌, List, length, get_or, take, ℤ, pos, ◌≤ℤ◌, ◌<ℤ◌, Some, None, Option, sym, refl, ap, ◌∙◌, subst, arith}
 use Rattle.units.specs.Senses.{Order}
 use Rattle.units.specs.Steps.{step_count}
 use Rattle.models.specs.Meaning.{Meaning}
-use Rattle.paths.specs.declared.blocks.Net.{Net}
-use Rattle.paths.specs.declared.blocks.Arc.{Arc}
-use Rattle.paths.specs.Blocks.{block, max_nets, max_path}
+use Rattle.paths.specs.Blocks.{max_path}
 use Rattle.paths.specs.Slacks.{WorstSlack}
 use Rattle.paths.specs.ArcByArc.{Timeable}
+use Rattle.paths.proofs.Firsts.{first_is}
+use Rattle.paths.proofs.Options.{none_is_not_some, some_injective}
 use Rattle.timing.specs.declared.answers.SignalRecord.{SignalRecord}
-use Rattle.timing.specs.Areas.{figure, ArcsPast}
+use Rattle.timing.specs.declared.answers.Answer.{Answer}
+use Rattle.timing.specs.declared.circuit.Circuit.{Circuit}
+use Rattle.timing.specs.Areas.{none_value, figure, entry_of, slack_entry, ArcsPast}
 use Rattle.timing.specs.Passes.{Forwarded, Backward, SlacksFilled, LeastEntry}
 use Rattle.timing.specs.Timed.{Areas, areas, Timed, PathAnswered}
 use Rattle.timing.specs.WorstPaths.{EndAt, Traceable, TracedRun}
+use Rattle.timing.proofs.Circuits.{circuit_block, circuit_order}
+use Rattle.timing.proofs.Figures.{figure_is_above, entry_stands}
 use Rattle.timing.proofs.PathAnswered.{worst_has_end, end_traceable, traced_answered}
-use Rattle.timing.proofs.Figures.{figure_some}
 use Rattle.timing.proofs.TimingParts.{worst_recorded, timed}
 
--- the number of 32 bits that stands for none, and any other
+-- what a timing has once the slacks are filled in, and the worst of them
+pub record Filled (c : Circuit) (m : Meaning) (o : Order) (was : Areas) (signals : List SignalRecord) (required slacks : List ℤ) (carried : ℕ) (worst : Option ℤ) : Type 0 where
+  pub timeable : Timeable (circuit_block c) m o c.order.now
+  pub forward : Forwarded (circuit_block c) m o was.signals signals carried
+  pub backward : Backward (circuit_block c) m o was.required required
+  pub filled : SlacksFilled o (length c.nets.now) signals required was.slacks slacks
+  pub least : LeastEntry (length c.nets.now) slacks worst
 
-none_of : (z : ℤ) → of_z w32 z ≡ 2147483648 → figure (to_z w32 (of_z w32 z)) ≡ None
-none_of z e = ap (λ n. figure (to_z w32 n)) e
+-- the answer of a timing
+abbrev pub answer : ℤ → ℕ → ℕ → ℕ → Answer
+answer worst start arcs carried = record { worst_slack = worst; start = start; arcs = arcs; carried = carried }
 
-pub some_of : (z : ℤ) → SFits w32 z → (of_z w32 z ≡ 2147483648 → ⊥) → figure (to_z w32 (of_z w32 z)) ≡ Some (to_z w32 (of_z w32 z))
-some_of z fits other = subst (λ y. figure y ≡ Some y) (sym (to_z-of_z w32 z fits)) (figure_some z fits (λ e. other (ap (of_z w32) e)))
+module _ {c : Circuit} {m : Meaning} {o : Order} {was : Areas} {signals : List SignalRecord} {required slacks : List ℤ} {carried : ℕ} {worst : Option ℤ} (F : Filled c m o was signals required slacks carried worst) where
+  -- the worst slack is an entry of the area, so it does not stand for none
+  above : (z : ℤ) → worst ≡ Some z → none_value <ℤ z
+  above z e = let (n, h, q) = first_is ◌≤ℤ◌ (λ a. (n : ℕ) × (n < length c.nets.now) × (slack_entry slacks n ≡ Some a)) worst F.least z e in figure_is_above (get_or slacks n (pos 0)) z q
 
-module _ (nets : List Net) (arcs : List Arc) (m : Meaning) (o : Order) (order : List ℕ) (was : Areas) (signals : List SignalRecord) (required slacks : List ℤ) (carried : ℕ) (r : ℤ) (fits : SFits w32 r) (T : Timeable (block nets arcs) m o order) (F : Forwarded (block nets arcs) m o was.signals signals carried) (B : Backward (block nets arcs) m o was.required required) (D : SlacksFilled o (length nets) signals required was.slacks slacks) (least : LeastEntry (length nets) slacks (figure r)) where
-  -- the worst slack as it is handed on, a number of 32 bits
-  abbrev worst : ℤ
-  worst = to_z w32 (of_z w32 r)
+  pub stands : (r : ℤ) → r ≡ entry_of worst → figure r ≡ worst
+  stands r e = ap figure e ∙ entry_stands worst above
 
-  L : LeastEntry (length nets) slacks (figure worst)
-  L = subst (λ (z : ℤ). LeastEntry (length nets) slacks (figure z)) (sym (to_z-of_z w32 r fits)) least
+  least_of : (r : ℤ) → r ≡ entry_of worst → LeastEntry (length c.nets.now) slacks (figure r)
+  least_of r e = subst (LeastEntry (length c.nets.now) slacks) (sym (stands r e)) F.least
 
-  pub timed_none : of_z w32 r ≡ 2147483648 → Timed (block nets arcs) m o was (areas signals required slacks was.path) (record { worst_slack = worst; start = 0; arcs = 0; carried = carried })
-  timed_none e =
-      let none = none_of r e in
-      timed (block nets arcs) m o order was (areas signals required slacks was.path) (record { worst_slack = worst; start = 0; arcs = 0; carried = carried }) T F B D L
-      (λ z e. let w : ◌≡◌ {A = ℕ} 0 1 = cc in absurd (omega arith)) (omega arith) (λ _. (ap (to_z w32) e, refl, refl)) (λ i _. refl)
+  pub timed_none : (r : ℤ) → r ≡ entry_of worst → worst ≡ None → Timed (circuit_block c) m o was (areas signals required slacks was.path) (answer r 0 0 carried)
+  timed_none r e none =
+      timed (circuit_block c) m o c.order.now was (areas signals required slacks was.path) (answer r 0 0 carried) F.timeable F.forward F.backward F.filled (least_of r e)
+      (λ z q. absurd (none_is_not_some z (sym none ∙ sym (stands r e) ∙ q))) (omega arith) (λ _. (e ∙ ap entry_of none, refl, refl)) (λ i _. refl)
 
-  pub has_end : (of_z w32 r ≡ 2147483648 → ⊥) → (n : ℕ) × (s : ℕ) × EndAt nets o signals worst n s
-  has_end other =
-      let e = some_of r fits other in
-      worst_has_end (block nets arcs) m o order was.signals signals carried T F worst
-      (subst (WorstSlack (block nets arcs) m o) e (worst_recorded (block nets arcs) m o order T was.signals signals carried F was.required required B was.slacks slacks D (figure worst) L))
+  module _ (z : ℤ) (some : worst ≡ Some z) where
+    pub has_end : (n : ℕ) × (s : ℕ) × EndAt c.nets.now o signals z n s
+    has_end =
+        worst_has_end (circuit_block c) m o c.order.now was.signals signals carried F.timeable F.forward z
+        (subst (WorstSlack (circuit_block c) m o) some (worst_recorded (circuit_block c) m o c.order.now F.timeable was.signals signals carried F.forward was.required required F.backward was.slacks slacks F.filled worst F.least))
 
-  module _ (few : length nets ≤ max_nets) (room : step_count * length nets ≤ length signals) (end step : ℕ) (E : EndAt nets o signals worst end step) where
-    pub traceable : Traceable (block nets arcs) m o order signals end step
-    traceable = end_traceable (block nets arcs) m o order was.signals signals carried worst end step few room T.ordered F E
+    module _ (room : step_count * length c.nets.now ≤ length signals) (end step : ℕ) (E : EndAt c.nets.now o signals z end step) where
+      pub traceable : Traceable (circuit_block c) m o c.order.now signals end step
+      traceable = end_traceable (circuit_block c) m o c.order.now was.signals signals carried z end step c.few.0 room (circuit_order c) F.forward E
 
-    pub timed_path : (start count : ℕ) (path : List ℕ) → (of_z w32 r ≡ 2147483648 → ⊥) → TracedRun arcs signals end step start (take count path) → count ≤ max_path → ArcsPast count was.path path → Timed (block nets arcs) m o was (areas signals required slacks path) (record { worst_slack = worst; start = start; arcs = count; carried = carried })
-    timed_path start count path other run short past =
-        let some = some_of r fits other in
-        timed (block nets arcs) m o order was (areas signals required slacks path) (record { worst_slack = worst; start = start; arcs = count; carried = carried }) T F B D L
-        (λ z e. let same : worst ≡ z = cc in subst (PathAnswered (block nets arcs) m o path (record { worst_slack = worst; start = start; arcs = count; carried = carried })) same
-        (traced_answered nets arcs m o order was.signals signals carried worst end step path (record { worst_slack = worst; start = start; arcs = count; carried = carried }) few room T.ordered F E run))
-        short (λ none. let w : ◌≡◌ {A = ℕ} 0 1 = cc in absurd (omega arith)) past
+      pub timed_path : (r : ℤ) (start count : ℕ) (path : List ℕ) → r ≡ entry_of worst → TracedRun c.arcs.now signals end step start (take count path) → count ≤ max_path → ArcsPast count was.path path → Timed (circuit_block c) m o was (areas signals required slacks path) (answer r start count carried)
+      timed_path r start count path e run short past =
+          timed (circuit_block c) m o c.order.now was (areas signals required slacks path) (answer r start count carried) F.timeable F.forward F.backward F.filled (least_of r e)
+          (λ y q. subst (PathAnswered (circuit_block c) m o path (answer r start count carried)) (some_injective z y (sym some ∙ sym (stands r e) ∙ q))
+          (traced_answered c.nets.now c.arcs.now m o c.order.now was.signals signals carried z end step path (answer r start count carried) c.few.0 room (circuit_order c) F.forward E run))
+          short (λ q. absurd (none_is_not_some z (sym q ∙ stands r e ∙ some))) past

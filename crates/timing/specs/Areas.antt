@@ -34,6 +34,11 @@ none_value = negsuc 2147483647
 abbrev pub figure : ℤ → Option ℤ
 figure z = cond (int_le z none_value) None (Some z)
 
+-- the entry that stands for a figure
+abbrev pub entry_of : Option ℤ → ℤ
+entry_of None = none_value
+entry_of (Some z) = z
+
 abbrev pub required_entry : List ℤ → ℕ → ℕ → Option ℤ
 required_entry required n s = figure (slice_index_or required (place n s) (pos 0))
 

@@ -1,26 +1,21 @@
 -- What the calls of a forward pass leave: records after signals were offered to them, and rows that are pruned. Assumes nothing.
-use Rattle.std.specs.Prelude.{◌≡◌, ℕ, ◌+◌, ◌-◌, ◌<◌, ◌≤◌, Bool, true, false, cond, ◌&&◌, ◌⊎◌, List, length, get_or, pos, Some, Option, nat_eq, slice_index_or, slice_set}
+use Rattle.std.specs.Prelude.{◌≡◌, ℕ, ◌+◌, ◌-◌, ◌<◌, ◌≤◌, Bool, true, false, cond, ◌&&◌, ◌⊎◌, List, pos, Some, Option, nat_eq, slice_index_or}
 use Rattle.units.specs.Senses.{Order, AsBad}
 use Rattle.units.specs.Steps.{step_count, last_step, RoundedUp}
 use Rattle.models.specs.Meaning.{Meaning}
 use Rattle.paths.specs.declared.blocks.Arc.{Arc}
 use Rattle.paths.specs.declared.blocks.Launch.{Launch}
-use Rattle.paths.specs.Blocks.{tail_of, head_of, no_arc}
+use Rattle.paths.specs.Blocks.{tail_of, no_arc}
 use Rattle.paths.specs.Signals.{Signal, signal, Covers}
 use Rattle.paths.specs.CarriedCounts.{sum_below}
 use Rattle.paths.specs.ArcByArc.{one_if_some}
 use Rattle.timing.specs.declared.answers.SignalRecord.{SignalRecord}
-use Rattle.timing.specs.Areas.{no_signal, held_by, SignalsPast}
+use Rattle.timing.specs.Areas.{no_signal, held_by}
 use Rattle.timing.specs.Passes.{launched_mark}
 
 -- for net and step a record
 abbrev pub Records : Type 0
 Records = ℕ → ℕ → SignalRecord
-
--- the first entries hold no signal, and the others are as they were
-pub record Cleared (k : ℕ) (was is : List SignalRecord) : Type 0 where
-  pub below : (i : ℕ) → i < k → slice_index_or is i no_signal ≡ no_signal
-  pub past : SignalsPast k was is
 
 -- of two records of one step, the one that stays: the old one, if it is kept and its time is at least as bad
 abbrev pub worse_of : Order → SignalRecord → SignalRecord → SignalRecord
@@ -71,12 +66,16 @@ signal_of e s = signal e.time s
 abbrev pub turn_of : Order → ℕ → ℕ
 turn_of o s = cond o.is_late (last_step - s) s
 
--- The record of a place holds no signal; or `worst` is as bad as its signal in time, and it is taken off; or it is not, and the signal is the worst now.
-abbrev pub PrunedAt : Order → List SignalRecord → ℕ → SignalRecord → List SignalRecord → SignalRecord → Type 0
-PrunedAt o was at worst is r =
-    (((get_or was at no_signal).kept ≡ false) × (is ≡ was) × (r ≡ worst))
-    ⊎ ((((get_or was at no_signal).kept ≡ true) × (worst.kept ≡ true) × AsBad o (pos worst.time) (pos (get_or was at no_signal).time) × (is ≡ slice_set was at no_signal) × (r ≡ worst))
-    ⊎ (((get_or was at no_signal).kept ≡ true) × (worst.kept ≡ true → ¬ AsBad o (pos worst.time) (pos (get_or was at no_signal).time)) × (is ≡ was) × (r ≡ slice_index_or was at no_signal)))
+-- there is a worst time so far, and it is at least as bad as this one
+abbrev pub WorstAsBad : Order → Option ℕ → ℕ → Type 0
+WorstAsBad o worst time = (w : ℕ) × (worst ≡ Some w) × AsBad o (pos w) (pos time)
+
+-- A record holds no signal, and stays; or the worst time is as bad as its signal's, and the signal is taken off; or it is not, and the signal's is the worst now.
+abbrev pub Pruned : Order → SignalRecord → Option ℕ → SignalRecord → Option ℕ → Type 0
+Pruned o was worst is r =
+    ((was.kept ≡ false) × (is ≡ was) × (r ≡ worst))
+    ⊎ (((was.kept ≡ true) × WorstAsBad o worst was.time × (is ≡ no_signal) × (r ≡ worst))
+    ⊎ ((was.kept ≡ true) × ¬ WorstAsBad o worst was.time × (is ≡ was) × (r ≡ Some was.time)))
 
 -- the row of a net when the signals of the steps before turn k that another one covers are taken off
 pub record RowPruned (o : Order) (n k : ℕ) (was is : Records) : Type 0 where
@@ -100,7 +99,3 @@ carried_out arcs rows n k = carried_where arcs rows (λ t. nat_eq t n) k
 -- no time of a net's row is later
 abbrev pub RowBy : Records → ℕ → ℕ → Type 0
 RowBy rows n latest = (s : ℕ) → s ≤ last_step → (rows n s).time ≤ latest
-
--- no arc leads from a net to itself
-abbrev pub NoSelfLoops : List Arc → Type 0
-NoSelfLoops arcs = (i : ℕ) → i < length arcs → ¬ (tail_of arcs i ≡ head_of arcs i)

@@ -1,4 +1,9 @@
 // What a timing answers and writes into its areas.
+ghost use Rattle.std.specs.Prelude.{◌≡◌};
+ghost use Rattle.timing.specs.Areas.{place, held_by};
+ghost use Rattle.timing.specs.Offers.{kept_record};
+
+use units::steps::STEPS;
 
 // No figure, in the areas of required times and slacks and as worst slack.
 pub const NONE: i32 = -2147483648;
@@ -23,6 +28,35 @@ pub const NO_SIGNAL: SignalRecord = SignalRecord {
     step: 0,
 };
 
+impl SignalRecord {
+    // The record of a signal that is kept.
+    pub(crate) fn kept(time: u32, arc: u16, step: u8) -> SignalRecord
+        ensures { result ≡ kept_record time arc step }
+    {
+        SignalRecord {
+            kept: true,
+            time,
+            arc,
+            step,
+        }
+    }
+
+    // The time of the signal, where one is kept.
+    pub(crate) fn kept_time(self) -> Option<u32>
+        ensures { result ≡ held_by self }
+    {
+        self.kept.then_some(self.time)
+    }
+}
+
+// The place of a net and a step in the areas of signals and of required times.
+pub(crate) fn place(net: u16, step: u8) -> usize
+    ensures { result ≡ place net step }
+{
+    STEPS * usize::from(net) + usize::from(step)
+}
+
+// The worst slack, or NONE; the start net and the number of arcs of a path that has it; the carried count.
 #[derive(Clone, Copy, PartialEq, Eq, Debug)]
 pub struct Answer {
     pub worst_slack: i32,

@@ -1,30 +1,29 @@
 // The forward pass: signals from the launches along the arcs, pruned net by net.
-ghost use Rattle.std.specs.Prelude.{ℕ, ◌+◌, ◌*◌, ◌<◌, ◌≤◌, length, slice_index};
-ghost use Rattle.network.specs.ArcLists.{end_mark, Rises};
-ghost use Rattle.paths.specs.Blocks.{max_nets, max_arcs, Joined};
+ghost use Rattle.std.specs.Prelude.{◌≡◌, ◌+◌, ◌*◌, ◌<◌, ◌≤◌, length, ◌≢◌};
 ghost use Rattle.units.specs.Steps.{step_count};
+ghost use Rattle.paths.specs.Blocks.{block};
+ghost use Rattle.paths.specs.ArcByArc.{one_if_some};
+ghost use Rattle.paths.specs.Ranges.{latest_time};
+ghost use Rattle.timing.specs.Areas.{record_at, held_by};
+ghost use Rattle.timing.specs.Offers.{AfterOffers, LaunchOffer, StepOffer, ArcOffers, FanOutOffers, kept_below, carried_out, RowBy};
+ghost use Rattle.timing.specs.Passes.{Forwarded};
 
-use crate::answers::{LAUNCHED, SignalRecord};
-use crate::signals::{clear, offer, prune_row};
+use crate::answers::{LAUNCHED, NO_SIGNAL, SignalRecord, place};
+use crate::circuit::Circuit;
+use crate::signals::prune_row;
 use models::delay_model::{DelayModel, ask};
-use network::fan_out::FanOut;
-use paths::blocks::{Arc, Launch, Net};
+use paths::blocks::{Arc, Launch};
 use units::senses::Sense;
 use units::steps::{LAST_STEP, STEPS, step_of};
 
 // Offers a launch to the row of its net.
-fn offer_launch<S: Sense>(launch: Option<Launch>, net: usize, signals: &mut [SignalRecord])
+fn offer_launch<S: Sense>(launch: Option<Launch>, net: u16, signals: &mut [SignalRecord])
     requires { step_count * net + step_count ≤ length signals.old }
+    ensures { AfterOffers S.Sense.order (LaunchOffer launch net) (record_at signals.old) (record_at signals.new) }
 {
     if let Some(launch) = launch {
-        let step = step_of(launch.transition);
-        let signal = SignalRecord {
-            kept: true,
-            time: launch.time,
-            arc: LAUNCHED,
-            step: 0,
-        };
-        offer::<S>(signals, STEPS * net + step as usize, signal);
+        let signal = SignalRecord::kept(launch.time, LAUNCHED, 0);
+        signals[place(net, step_of(launch.transition))].offer::<S>(signal);
     }
 }
 
@@ -39,24 +38,16 @@ fn carry_signal<M: DelayModel, S: Sense>(
     requires tail { step_count * arc.tail + step_count ≤ length signals.old }
     requires head { step_count * arc.head + step_count ≤ length signals.old }
     requires step { step < step_count }
-    ensures { result ≤ 1 }
+    requires time { (record_at signals.old arc.tail step).time ≤ latest_time }
+    ensures offers { AfterOffers S.Sense.order (StepOffer (M.DelayModel.meaning model.now) arc number step (record_at signals.old)) (record_at signals.old) (record_at signals.new) }
+    ensures count { result ≡ one_if_some (held_by (record_at signals.old arc.tail step)) }
 {
-    let signal = signals[STEPS * arc.tail as usize + step as usize];
-    if !signal.kept {
+    let Some(time) = signals[place(arc.tail, step)].kept_time() else {
         return 0;
-    }
-    let (delay, output_step) = ask(model, arc.kind, step);
-    let carried = SignalRecord {
-        kept: true,
-        time: signal.time.saturating_add(delay),
-        arc: number,
-        step,
     };
-    offer::<S>(
-        signals,
-        STEPS * arc.head as usize + output_step as usize,
-        carried,
-    );
+    let (delay, output_step) = ask(model, arc.kind, step);
+    let signal = SignalRecord::kept(time + delay, number, step);
+    signals[place(arc.head, output_step)].offer::<S>(signal);
     1
 }
 
@@ -69,7 +60,10 @@ fn carry_arc<M: DelayModel, S: Sense>(
 ) -> u32
     requires tail { step_count * arc.tail + step_count ≤ length signals.old }
     requires head { step_count * arc.head + step_count ≤ length signals.old }
-    ensures { result ≤ step_count }
+    requires apart { arc.tail ≢ arc.head }
+    requires times { RowBy (record_at signals.old) arc.tail latest_time }
+    ensures offers { AfterOffers S.Sense.order (ArcOffers (M.DelayModel.meaning model.now) arc number step_count (record_at signals.old)) (record_at signals.old) (record_at signals.new) }
+    ensures count { result ≡ kept_below (record_at signals.old) arc.tail step_count }
 {
     let mut carried = 0;
     for step in 0..=LAST_STEP {
@@ -81,24 +75,20 @@ fn carry_arc<M: DelayModel, S: Sense>(
 // Carries the signals of a net over each arc out of it; answers how many it carried.
 fn carry_fan_out<M: DelayModel, S: Sense>(
     model: &M,
-    arcs: &[Arc],
-    fan_out: &FanOut,
-    nets: usize,
+    circuit: &Circuit<'_>,
     net: u16,
     signals: &mut [SignalRecord],
 ) -> u32
-    requires net { (net < nets) × (nets ≤ max_nets) }
-    requires few { length arcs.now ≤ max_arcs }
-    requires joined { Joined nets arcs.now }
-    requires rises { Rises (length arcs.now) fan_out.now.next }
-    requires room { step_count * nets ≤ length signals.old }
-    ensures { result ≤ step_count * end_mark }
+    requires net { net < length circuit.now.nets.now }
+    requires room { step_count * length circuit.now.nets.now ≤ length signals.old }
+    requires times { RowBy (record_at signals.old) net latest_time }
+    ensures offers { AfterOffers S.Sense.order (FanOutOffers (M.DelayModel.meaning model.now) circuit.now.arcs.now net (length circuit.now.arcs.now) (record_at signals.old)) (record_at signals.old) (record_at signals.new) }
+    ensures count { result ≡ carried_out circuit.now.arcs.now (record_at signals.old) net (length circuit.now.arcs.now) }
 {
     let mut carried = 0;
-    let mut i = fan_out.first[net as usize];
-    while (i as usize) < arcs.len() {
-        carried += carry_arc::<M, S>(model, arcs[i as usize], i, signals);
-        i = fan_out.next[i as usize];
+    for &number in circuit.fan_out.arcs_out(net) {
+        let arc = circuit.arcs[usize::from(number)];
+        carried += carry_arc::<M, S>(model, arc, number, signals);
     }
     carried
 }
@@ -106,27 +96,18 @@ fn carry_fan_out<M: DelayModel, S: Sense>(
 // Fills the signals of every net, in topological order; answers how many signals the arcs carried.
 pub fn propagate<M: DelayModel, S: Sense>(
     model: &M,
-    nets: &[Net],
-    arcs: &[Arc],
-    order: &[u16],
-    fan_out: &FanOut,
+    circuit: &Circuit<'_>,
     signals: &mut [SignalRecord],
 ) -> u32
-    requires nets { length nets.now ≤ max_nets }
-    requires few { length arcs.now ≤ max_arcs }
-    requires joined { Joined (length nets.now) arcs.now }
-    requires numbers { (k : ℕ) → k < length order.now → slice_index order.now k < length nets.now }
-    requires ordered { length order.now ≤ max_nets }
-    requires rises { Rises (length arcs.now) fan_out.now.next }
-    requires room { step_count * length nets.now ≤ length signals.old }
+    requires { step_count * length circuit.now.nets.now ≤ length signals.old }
+    ensures { Forwarded (block circuit.now.nets.now circuit.now.arcs.now) (M.DelayModel.meaning model.now) S.Sense.order signals.old signals.new result }
 {
-    clear(signals, STEPS * nets.len());
+    signals[..STEPS * circuit.nets.len()].fill(NO_SIGNAL);
     let mut carried = 0;
-    for p in 0..order.len() {
-        let net = order[p];
-        offer_launch::<S>(nets[net as usize].launch, net as usize, signals);
-        prune_row::<S>(signals, net as usize);
-        carried += carry_fan_out::<M, S>(model, arcs, fan_out, nets.len(), net, signals);
+    for &net in circuit.order {
+        offer_launch::<S>(circuit.nets[usize::from(net)].launch, net, signals);
+        prune_row::<S>(signals, net);
+        carried += carry_fan_out::<M, S>(model, circuit, net, signals);
     }
     carried
 }

@@ -2,6 +2,8 @@
 #![tactic(auto)]
 
 pub mod answers;
+pub mod circuit;
+mod entries;
 pub mod faults;
 mod forward;
 mod required;

@@ -1,43 +1,43 @@
 // The slack of every net, and the worst of them.
-ghost use Rattle.std.specs.Prelude.{◌+◌, ◌*◌, ◌≤◌, length};
+ghost use Rattle.std.specs.Prelude.{◌≡◌, ℕ, ◌+◌, ◌*◌, ◌<◌, ◌≤◌, length, ℤ, Some, slice_range};
 ghost use Rattle.paths.specs.Blocks.{max_nets};
-ghost use Rattle.units.specs.Steps.{step_count};
+ghost use Rattle.paths.specs.Ranges.{latest_time, RequiredFits};
+ghost use Rattle.timing.specs.Areas.{record_at, held_by, figure, required_entry};
+ghost use Rattle.timing.specs.Passes.{SlacksFilled, LeastEntry};
+ghost use Rattle.timing.specs.SlackFigures.{slack_figure, LeastOfRow};
+ghost use Rattle.units.specs.Steps.{step_count, last_step};
 
-use crate::answers::{NONE, SignalRecord};
+use crate::answers::SignalRecord;
+use crate::entries::{entry_of, figure};
 use units::senses::Sense;
 use units::steps::STEPS;
 
-// The lesser of two slacks, where there are any.
-fn lesser(a: i32, b: i32) -> i32 {
-    if a == NONE {
-        b
-    } else if b == NONE {
-        a
-    } else {
-        a.min(b)
-    }
+// The slack of a signal against a required time; none if either is missing.
+pub fn slack_of<S: Sense>(signal: SignalRecord, required: Option<i32>) -> Option<i64>
+    ensures { result ≡ slack_figure S.Sense.order (held_by signal) required }
+{
+    Some(S::slack(signal.kept_time()?, required?))
 }
 
-// The slack of a signal against a required time; none if either is missing.
-pub fn slack_of<S: Sense>(signal: SignalRecord, required: i32) -> i32 {
-    if !signal.kept || required == NONE {
-        return NONE;
-    }
-    // Times and required times are so small that a slack always fits.
-    i32::try_from(S::slack(signal.time, required)).unwrap_or(NONE)
+// The part of an area that is one net's.
+pub fn row<T>(area: &[T], net: usize) -> &[T]
+    requires { step_count * net + step_count ≤ length area.now }
+    ensures { result.now ≡ slice_range area.now (step_count * net) (step_count * net + step_count) }
+{
+    &area[STEPS * net..STEPS * net + STEPS]
 }
 
 // The least slack of the signals that a net keeps.
-fn net_slack<S: Sense>(signals: &[SignalRecord], required: &[i32], net: usize) -> i32
+fn net_slack<S: Sense>(signals: &[SignalRecord], required: &[i32], net: usize) -> Option<i64>
     requires signals { step_count * net + step_count ≤ length signals.now }
     requires required { step_count * net + step_count ≤ length required.now }
+    ensures { LeastOfRow S.Sense.order signals.now required.now net result }
 {
-    let mut least = NONE;
-    for step in 0..STEPS {
-        let slack = slack_of::<S>(signals[STEPS * net + step], required[STEPS * net + step]);
-        least = lesser(least, slack);
-    }
-    least
+    row(signals, net)
+        .iter()
+        .zip(row(required, net))
+        .filter_map(|(signal, required)| slack_of::<S>(*signal, figure(*required)))
+        .min()
 }
 
 // Fills the slack of every net.
@@ -51,19 +51,23 @@ pub fn fill_slacks<S: Sense>(
     requires signals { step_count * nets ≤ length signals.now }
     requires required { step_count * nets ≤ length required.now }
     requires slacks { nets ≤ length slacks.old }
+    requires times { (n s : ℕ) → n < nets → s ≤ last_step → (record_at signals.now n s).time ≤ latest_time }
+    requires range { (n s : ℕ) (r : ℤ) → n < nets → s ≤ last_step → required_entry required.now n s ≡ Some r → RequiredFits r }
+    ensures { SlacksFilled S.Sense.order nets signals.now required.now slacks.old slacks.new }
 {
-    for net in 0..nets {
-        slacks[net] = net_slack::<S>(signals, required, net);
+    for (net, slack) in slacks[..nets].iter_mut().enumerate() {
+        let least = net_slack::<S>(signals, required, net);
+        *slack = entry_of(least.map(|slack| slack as i32));
     }
 }
 
 // The worst slack of all nets.
-pub fn worst_slack(slacks: &[i32], nets: usize) -> i32
+pub fn worst_slack(slacks: &[i32], nets: usize) -> Option<i32>
     requires { nets ≤ length slacks.now }
+    ensures { LeastEntry nets slacks.now result }
 {
-    let mut worst = NONE;
-    for net in 0..nets {
-        worst = lesser(worst, slacks[net]);
-    }
-    worst
+    slacks[..nets]
+        .iter()
+        .filter_map(|slack| figure(*slack))
+        .min()
 }

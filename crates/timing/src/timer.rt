@@ -1,42 +1,47 @@
 // A whole timing.
-ghost use Rattle.std.specs.Prelude.{◌≡◌, ℕ, ◌*◌, ◌<◌, ◌≤◌, length, OnOk, slice_index};
-ghost use Rattle.network.specs.ArcLists.{Rises};
-ghost use Rattle.paths.specs.Blocks.{max_nets, max_arcs, Joined, LateLimitsFit, EarlyLimitsFit, max_path};
+ghost use Rattle.std.specs.Prelude.{◌*◌, ◌≤◌, length};
+ghost use Rattle.units.specs.Refusals.{Outcome};
 ghost use Rattle.units.specs.Steps.{step_count};
+ghost use Rattle.paths.specs.Blocks.{max_nets, max_arcs, block};
+ghost use Rattle.timing.specs.Faults.{refusal_of};
+ghost use Rattle.timing.specs.Passes.{Forwarded, Backward, SlacksFilled};
+ghost use Rattle.timing.specs.Rows.{area_rows, AreasFit, kind_rows, KindsHeld};
+ghost use Rattle.timing.specs.Timed.{areas, TimeOutcome};
 
-use crate::answers::{Answer, NONE, SignalRecord};
+use crate::answers::{Answer, SignalRecord};
+use crate::circuit::Circuit;
+use crate::entries::entry_of;
 use crate::faults::TimingFault;
 use crate::forward::propagate;
 use crate::required::require_all;
 use crate::slacks::{fill_slacks, worst_slack};
 use crate::worst_path::{end_of, trace};
 use models::delay_model::DelayModel;
-use network::fan_out::FanOut;
-use paths::blocks::{Arc, MAX_PATH, Net};
+use paths::blocks::{Arc, MAX_PATH};
 use units::senses::Sense;
 use units::steps::STEPS;
 
 // Tests the areas in turn.
 fn test_areas(
     nets: usize,
-    signals: usize,
-    required: usize,
-    slacks: usize,
-    path: usize,
+    signals: &[SignalRecord],
+    required: &[i32],
+    slacks: &[i32],
+    path: &[u16],
 ) -> Result<(), TimingFault>
     requires { nets ≤ max_nets }
-    ensures { OnOk result ((step_count * nets ≤ signals) × (step_count * nets ≤ required) × (nets ≤ slacks) × (max_path ≤ path)) }
+    ensures { Outcome refusal_of (area_rows nets (length signals.now) (length required.now) (length slacks.now) (length path.now)) result (λ _. AreasFit nets (length signals.now) (length required.now) (length slacks.now) (length path.now)) (Unit {0}) }
 {
-    if signals < STEPS * nets {
+    if signals.len() < STEPS * nets {
         return Err(TimingFault::AreaTooShort(1));
     }
-    if required < STEPS * nets {
+    if required.len() < STEPS * nets {
         return Err(TimingFault::AreaTooShort(2));
     }
-    if slacks < nets {
+    if slacks.len() < nets {
         return Err(TimingFault::AreaTooShort(3));
     }
-    if path < MAX_PATH {
+    if path.len() < MAX_PATH {
         return Err(TimingFault::AreaTooShort(4));
     }
     Ok(())
@@ -45,61 +50,60 @@ fn test_areas(
 // Tests that the model holds the kind of every arc.
 fn test_kinds<M: DelayModel>(model: &M, arcs: &[Arc]) -> Result<(), TimingFault>
     requires { length arcs.now ≤ max_arcs }
+    ensures { Outcome refusal_of (kind_rows (M.DelayModel.meaning model.now).count arcs.now) result (λ _. KindsHeld (M.DelayModel.meaning model.now).count arcs.now) (Unit {0}) }
 {
     let count = model.count();
-    for i in 0..arcs.len() {
-        if arcs[i].kind >= count {
-            return Err(TimingFault::KindNotHeld(i as u16));
-        }
+    match arcs.iter().position(|arc| arc.kind >= count) {
+        Some(i) => Err(TimingFault::KindNotHeld(i as u16)),
+        None => Ok(()),
     }
-    Ok(())
+}
+
+// Fills the areas of signals, required times and slacks; answers the carried count.
+fn fill_figures<M: DelayModel, S: Sense>(
+    model: &M,
+    circuit: &Circuit<'_>,
+    signals: &mut [SignalRecord],
+    required: &mut [i32],
+    slacks: &mut [i32],
+) -> u32
+    requires signals { step_count * length circuit.now.nets.now ≤ length signals.old }
+    requires required { step_count * length circuit.now.nets.now ≤ length required.old }
+    requires slacks { length circuit.now.nets.now ≤ length slacks.old }
+    ensures forward { Forwarded (block circuit.now.nets.now circuit.now.arcs.now) (M.DelayModel.meaning model.now) S.Sense.order signals.old signals.new result }
+    ensures backward { Backward (block circuit.now.nets.now circuit.now.arcs.now) (M.DelayModel.meaning model.now) S.Sense.order required.old required.new }
+    ensures slacks { SlacksFilled S.Sense.order (length circuit.now.nets.now) signals.new required.new slacks.old slacks.new }
+{
+    let carried = propagate::<M, S>(model, circuit, signals);
+    require_all::<M, S>(model, circuit, required);
+    fill_slacks::<S>(signals, required, circuit.nets.len(), slacks);
+    carried
 }
 
 // Times a block in one sense, into four areas.
 pub fn time<M: DelayModel, S: Sense>(
     model: &M,
-    nets: &[Net],
-    arcs: &[Arc],
-    order: &[u16],
-    fan_out: &FanOut,
+    circuit: &Circuit<'_>,
     signals: &mut [SignalRecord],
     required: &mut [i32],
     slacks: &mut [i32],
     path: &mut [u16],
 ) -> Result<Answer, TimingFault>
-    requires nets { length nets.now ≤ max_nets }
-    requires few { length arcs.now ≤ max_arcs }
-    requires joined { Joined (length nets.now) arcs.now }
-    requires lates { LateLimitsFit nets.now }
-    requires earlies { EarlyLimitsFit nets.now }
-    requires ordered { length order.now ≡ length nets.now }
-    requires numbers { (k : ℕ) → k < length order.now → slice_index order.now k < length nets.now }
-    requires rises { Rises (length arcs.now) fan_out.now.next }
+    ensures { TimeOutcome refusal_of (block circuit.now.nets.now circuit.now.arcs.now) (M.DelayModel.meaning model.now) S.Sense.order (areas signals.old required.old slacks.old path.old) result (areas signals.new required.new slacks.new path.new) }
 {
-    test_areas(
-        nets.len(),
-        signals.len(),
-        required.len(),
-        slacks.len(),
-        path.len(),
-    )?;
-    test_kinds(model, arcs)?;
-    let carried = propagate::<M, S>(model, nets, arcs, order, fan_out, signals);
-    require_all::<M, S>(model, nets, arcs, order, fan_out, required);
-    fill_slacks::<S>(signals, required, nets.len(), slacks);
-    let worst_slack = worst_slack(slacks, nets.len());
-    if worst_slack == NONE {
-        return Ok(Answer {
-            worst_slack,
-            start: 0,
-            arcs: 0,
-            carried,
-        });
-    }
-    let (end, step) = end_of::<S>(nets, signals, worst_slack);
-    let (start, arcs) = trace(arcs, signals, end, step, path);
+    test_areas(circuit.nets.len(), signals, required, slacks, path)?;
+    test_kinds(model, circuit.arcs)?;
+    let carried = fill_figures::<M, S>(model, circuit, signals, required, slacks);
+    let worst = worst_slack(slacks, circuit.nets.len());
+    let (start, arcs) = match worst {
+        Some(worst) => {
+            let (end, step) = end_of::<S>(circuit, signals, worst);
+            trace(circuit, signals, end, step, path)
+        }
+        None => (0, 0),
+    };
     Ok(Answer {
-        worst_slack,
+        worst_slack: entry_of(worst),
         start,
         arcs,
         carried,

@@ -1,7 +1,5 @@
-use Rattle.std.proofs.Common.{◌*◌, ◌≤◌}
-use Rattle.network.specs.ArcLists.{end_mark}
-use Rattle.units.specs.Steps.{step_count}
+use Rattle.timing.proofs.ForwardPass.{PassAt}
 use Rattle.timing.proofs.forward.propagate.Given as goal
 
-abbrev pub invariant-loop-p : goal.invariant-loop-p
-invariant-loop-p g l = l.carried ≤ step_count * end_mark * l.p
+abbrev pub invariant-loop-net : goal.invariant-loop-net
+invariant-loop-net g l = PassAt l.circuit (g.M.DelayModel.meaning l.model) g.S.Sense.order l.net-index l.fn.signals l.signals l.carried

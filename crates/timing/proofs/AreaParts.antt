@@ -1,0 +1,32 @@
+-- The parts of an area: its first entries, and the row of a net. Assumes nothing.
+use Rattle.std.proofs.Common.{◌≡◌, ℕ, ◌+◌, ◌-◌, ◌*◌, ◌<◌, ◌≤◌, List, length, get_or, drop, ap, ◌∙◌, arith}
+use Rattle.std.specs.List.{slice_range, zip}
+use Rattle.std.proofs.lemmas.List.{length-take-le, length-drop}
+use Rattle.std.proofs.lemmas.List.Edits.{get_or-between}
+use Rattle.std.proofs.lemmas.Slice.Zip.{length-zip, get_or-zip}
+use Rattle.units.specs.Steps.{step_count}
+use Rattle.timing.specs.Areas.{place}
+
+pub front_at : {X : Type 0} (xs : List X) (k i : ℕ) (d : X) → i < k → get_or (slice_range xs 0 k) i d ≡ get_or xs i d
+front_at xs k i d h = get_or-between xs 0 k i d (omega arith) ∙ ap (λ (j : ℕ). get_or xs j d) (omega arith)
+
+-- the row of net n
+abbrev pub row_of : {X : Type 0} → List X → ℕ → List X
+row_of xs n = slice_range xs (step_count * n) (step_count * n + step_count)
+
+pub row_long : {X : Type 0} (xs : List X) (n : ℕ) → step_count * n + step_count ≤ length xs → length (row_of xs n) ≡ step_count
+row_long xs n h = length-take-le (step_count * n + step_count - step_count * n) (drop (step_count * n) xs) (omega (arith, length-drop (step_count * n) xs)) ∙ omega arith
+
+pub row_at : {X : Type 0} (xs : List X) (n s : ℕ) (d : X) → s < step_count → get_or (row_of xs n) s d ≡ get_or xs (place n s) d
+row_at xs n s d h = get_or-between xs (step_count * n) (step_count * n + step_count) s d (omega arith)
+
+-- the rows of net n in two areas, step by step
+module _ {X Y : Type 0} (xs : List X) (ys : List Y) (n : ℕ) (fit : step_count * n + step_count ≤ length xs) (fits : step_count * n + step_count ≤ length ys) where
+  pub rows_long : length (zip (row_of xs n) (row_of ys n)) ≡ step_count
+  rows_long = omega (arith, length-zip (row_of xs n) (row_of ys n), row_long xs n fit, row_long ys n fits)
+
+  pub rows_at : (s : ℕ) (d : X) (e : Y) → s < step_count → get_or (zip (row_of xs n) (row_of ys n)) s (d, e) ≡ (get_or xs (place n s) d, get_or ys (place n s) e)
+  rows_at s d e h =
+      get_or-zip (row_of xs n) (row_of ys n) s (d, e) (omega (arith, row_long xs n fit)) (omega (arith, row_long ys n fits))
+      ∙ ap (λ (v : X). (v, get_or (row_of ys n) s e)) (row_at xs n s d h)
+      ∙ ap (λ (v : Y). (get_or xs (place n s) d, v)) (row_at ys n s e h)
