@@ -1,6 +1,6 @@
 -- The arcs out of one net counted off, one after the other. Assumes nothing.
 use Rattle.std.proofs.Common.{◌≡◌, ℕ, ◌+◌, ◌-◌, ◌<◌, ◌≤◌, ◌≢◌, List, [], ◌∷◌, ◌++◌, length, get_or, drop, set, sym, ap, ◌∙◌, subst, inl, inr, arith}
-use Rattle.std.proofs.lemmas.List.{length_push, get_or_append_left}
+use Rattle.std.proofs.lemmas.List.{length-set, length_push, get_or_append_left}
 use Rattle.std.proofs.lemmas.Bool.{cases_lt}
 use Rattle.paths.specs.declared.blocks.Arc.{Arc}
 use Rattle.paths.specs.Blocks.{tail_of, head_of, Joined}
@@ -14,6 +14,7 @@ use Rattle.network.proofs.SortingSteps.{skip, released, some_waits, has_room, st
 pub record Releasing (arcs : List Arc) (at k net : ℕ) (list : List ℕ) (x : ℕ) (pending order : List ℕ) : Type 0 where
   pub within : at < length order
   pub net_is : get_or order at 0 ≡ net
+  pub joined : Joined (length pending) arcs
   pub left_is : drop x list ≡ arcs_out (drop k arcs) net k
   pub sorting : Sorting arcs at k pending order
 
@@ -27,7 +28,7 @@ pub record Step (arcs : List Arc) (at net : ℕ) (list : List ℕ) (x i h : ℕ)
   pub placed : get_or pending h 0 - 1 ≡ 0 → Releasing arcs at (i + 1) net list (x + 1) (set pending h (get_or pending h 0 - 1)) (order ++ h ∷ [])
 
 module _ (arcs : List Arc) (at k net : ℕ) (list : List ℕ) (x : ℕ) (pending order : List ℕ) (R : Releasing arcs at k net list x pending order) where
-  module _ (joined : Joined (length pending) arcs) (lt : x < length list) where
+  module _ (lt : x < length list) where
     abbrev arc : ℕ
     arc = get_or list x 0
 
@@ -41,28 +42,33 @@ module _ (arcs : List Arc) (at k net : ℕ) (list : List ℕ) (x : ℕ) (pending
     sorted = skip arcs at k arc pending order R.within next.0 (λ j ge h own. next.3 j ge h (own ∙ R.net_is)) R.sorting
 
     head_waits : 0 < get_or pending (head_of arcs arc) 0
-    head_waits = some_waits arcs at arc pending order joined sorted R.within next.1 here
+    head_waits = some_waits arcs at arc pending order R.joined sorted R.within next.1 here
+
+    still_joined : (left : ℕ) → Joined (length (set pending (head_of arcs arc) left)) arcs
+    still_joined left = subst (λ n. Joined n arcs) (sym (length-set pending (head_of arcs arc) left)) R.joined
 
     pub step : Step arcs at net list x arc (head_of arcs arc) pending order
     step = record {
       is_arc = next.1;
-      inside = (joined arc next.1).1;
+      inside = (R.joined arc next.1).1;
       waits = head_waits;
-      room = has_room arcs at arc pending order joined sorted R.within next.1 here;
+      room = has_room arcs at arc pending order R.joined sorted R.within next.1 here;
       on = λ more. record {
         within = R.within;
         net_is = R.net_is;
+        joined = still_joined _;
         left_is = next.4;
-        sorting = let pos = head_waits in still_waits arcs at arc pending order joined sorted R.within next.1 here _ (omega arith) (omega arith);
+        sorting = let pos = head_waits in still_waits arcs at arc pending order R.joined sorted R.within next.1 here _ (omega arith) (omega arith);
       };
       placed = λ none. record {
         within = let long = length_push order (head_of arcs arc) in let within = R.within in omega arith;
         net_is = get_or_append_left order (head_of arcs arc ∷ []) 0 at R.within ∙ R.net_is;
+        joined = still_joined _;
         left_is = next.4;
         sorting =
             let pos = head_waits in
             subst (λ (v : ℕ). Sorting arcs at (arc + 1) (set pending (head_of arcs arc) v) (order ++ head_of arcs arc ∷ [])) (sym none)
-            (head_placed arcs at arc pending order joined sorted R.within next.1 here (omega arith));
+            (head_placed arcs at arc pending order R.joined sorted R.within next.1 here (omega arith));
       };
     }
 
