@@ -57,8 +57,8 @@ network_facts n m o model sense late-or-early e =
     let ordered = network_order n e in
     record {
       covering = covering_carried b m o model sense;
-      short = run_short b order n.joined ordered n.few.0;
-      ranges = ranges_hold b m o order (record { model = model; sense = sense; ordered = ordered }) n.joined n.few.0 n.times n.lates n.earlies late-or-early;
+      short = run_short b order n.netlist.joined ordered n.netlist.few.0;
+      ranges = ranges_hold b m o order (record { model = model; sense = sense; ordered = ordered }) n.netlist.joined n.netlist.few.0 n.netlist.times n.netlist.lates n.netlist.earlies late-or-early;
       unique = figures_unique b m o sense;
     }
 

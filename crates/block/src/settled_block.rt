@@ -45,7 +45,7 @@ impl SettledBlock {
 
     // How many nets the block has.
     pub fn net_count(&self) -> usize
-        ensures value { result ≡ vec_len self.now.network.nets }
+        ensures value { result ≡ vec_len self.now.network.netlist.nets }
         ensures few { result ≤ max_nets }
     {
         self.network.nets().len()
