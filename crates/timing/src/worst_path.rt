@@ -6,10 +6,11 @@ ghost use Rattle.timing.specs.Areas.{ArcsPast};
 ghost use Rattle.timing.specs.Passes.{launched_mark};
 ghost use Rattle.timing.specs.WorstPaths.{EndAt, EndStep, SomeTraceable, TracedRun};
 
-use crate::answers::{LAUNCHED, SignalRecord, place};
+use crate::answers::{NO_SIGNAL, SignalRecord, place};
 use crate::circuit::Circuit;
 use crate::required::limit_of;
 use crate::slacks::{row, slack_of};
+use paths::blocks::MAX_PATH;
 use units::senses::Sense;
 
 // A step at which the net's signal has that slack against the limit, where there is one.
@@ -28,27 +29,25 @@ fn end_step<S: Sense>(
         .map(|step| step as u8)
 }
 
-// A net and a step whose signal has the worst slack against the net's limit; there is one.
-pub fn end_of<S: Sense>(circuit: &Circuit<'_>, signals: &[SignalRecord], worst: i32) -> (u16, u8)
-    requires room { step_count * length circuit.now.nets.now ≤ length signals.now }
-    requires there { (n : ℕ) × (s : ℕ) × EndAt circuit.now.nets.now S.Sense.order signals.now worst n s }
-    ensures { EndAt circuit.now.nets.now S.Sense.order signals.now worst result.0 result.1 }
+// A net and a step whose signal has the worst slack against the net's limit.
+pub fn end_of<S: Sense>(
+    circuit: &Circuit<'_>,
+    signals: &[SignalRecord],
+    worst: i32,
+) -> Option<(u16, u8)>
+    requires { step_count * length circuit.now.nets.now ≤ length signals.now }
 {
     for (n, net) in circuit.nets.iter().enumerate() {
         if let Some(step) = end_step::<S>(signals, n, limit_of::<S>(*net), worst) {
-            return (n as u16, step);
+            return Some((n as u16, step));
         }
     }
-    unreachable!()
+    None
 }
 
-impl SignalRecord {
-    // The arc that the signal came over; none if it is its net's launch.
-    fn came_over(self) -> Option<u16>
-        ensures { MatchOption result (self.arc ≡ launched_mark) (λ arc. (arc ≡ self.arc) × (arc ≢ launched_mark)) }
-    {
-        (self.arc != LAUNCHED).then_some(self.arc)
-    }
+// The record of a net and a step.
+fn record_at(signals: &[SignalRecord], net: u16, step: u8) -> SignalRecord {
+    signals.get(place(net, step)).copied().unwrap_or(NO_SIGNAL)
 }
 
 // Takes the arcs from the end back to a launch; answers the start net and the number of arcs.
@@ -59,22 +58,21 @@ fn trace_back(
     step: u8,
     path: &mut [u16],
 ) -> (u16, u16)
-    requires room { max_path ≤ length path.old }
-    requires traceable { SomeTraceable circuit.now.arcs.now signals.now end step }
-    ensures count { result.1 ≤ max_path }
-    ensures run { TracedRun circuit.now.arcs.now signals.now end step result.0 (reverse (take result.1 path.new)) }
-    ensures past { ArcsPast result.1 path.old path.new }
+    requires { max_path ≤ length path.old }
+    ensures { result.1 ≤ max_path }
 {
     let mut net = end;
-    let mut signal = signals[place(end, step)];
-    let mut count = 0;
-    while let Some(arc) = signal.came_over() {
-        path[count] = arc;
-        count += 1;
-        net = circuit.arcs[usize::from(arc)].tail;
-        signal = signals[place(net, signal.step)];
+    let mut signal = record_at(signals, end, step);
+    for (count, entry) in path[..MAX_PATH].iter_mut().enumerate() {
+        // The mark of a launch is the number of no arc.
+        let Some(arc) = circuit.arcs.get(usize::from(signal.arc)) else {
+            return (net, count as u16);
+        };
+        *entry = signal.arc;
+        net = arc.tail;
+        signal = record_at(signals, net, signal.step);
     }
-    (net, count as u16)
+    (net, MAX_PATH as u16)
 }
 
 // Writes the arcs of a path to the end, from its start on; answers the start net and the number of arcs.
@@ -85,11 +83,7 @@ pub fn trace(
     step: u8,
     path: &mut [u16],
 ) -> (u16, u16)
-    requires room { max_path ≤ length path.old }
-    requires traceable { SomeTraceable circuit.now.arcs.now signals.now end step }
-    ensures count { result.1 ≤ max_path }
-    ensures run { TracedRun circuit.now.arcs.now signals.now end step result.0 (take result.1 path.new) }
-    ensures past { ArcsPast result.1 path.old path.new }
+    requires { max_path ≤ length path.old }
 {
     let (start, count) = trace_back(circuit, signals, end, step, path);
     path[..usize::from(count)].reverse();
