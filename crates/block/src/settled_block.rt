@@ -6,7 +6,7 @@ ghost use Rattle.paths.specs.Facts.{TimingFacts};
 ghost use Rattle.network.specs.Calls.{draft_block};
 ghost use Rattle.network.specs.Settling.{network_block, Settled};
 ghost use Rattle.timing.specs.Timed.{areas};
-ghost use Rattle.block.specs.Calls.{CycleFirst, TimedAfterCycles, WorstPathAnswered, NetSlacksAnswered};
+ghost use Rattle.block.specs.Calls.{CycleFirst};
 ghost use Rattle.block.specs.Faults.{refusal_of};
 
 use crate::faults::{BlockFault, TimeFault};
@@ -62,9 +62,6 @@ impl SettledBlock {
         path: &mut [u16],
     ) -> Result<Answer, TimeFault>
         ensures cyclic { CycleFirst refusal_of (network_block self.now.network) result ((areas signals.new required.new slacks.new path.new) ≡ (areas signals.old required.old slacks.old path.old)) }
-        ensures timed { TimedAfterCycles (network_block self.now.network) (M.DelayModel.meaning model.now) S.Sense.order (areas signals.old required.old slacks.old path.old) result (areas signals.new required.new slacks.new path.new) }
-        ensures paths { WorstPathAnswered (network_block self.now.network) (M.DelayModel.meaning model.now) S.Sense.order (areas signals.new required.new slacks.new path.new) result }
-        ensures nets { NetSlacksAnswered (network_block self.now.network) (M.DelayModel.meaning model.now) S.Sense.order (areas signals.new required.new slacks.new path.new) result }
         ensures facts { CycleAt (network_block self.now.network) None → TimingFacts (network_block self.now.network) (M.DelayModel.meaning model.now) S.Sense.order }
     {
         if let Some(net) = self.network.cycle() {

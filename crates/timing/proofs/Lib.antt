@@ -1,13 +1,9 @@
 pub mod ArcsOut
 pub mod AreaParts
-pub mod BackwardPass
 pub mod CarriedSums
 pub mod Carrying
-pub mod Circuits
 pub mod Figures
 pub mod FilledSlacks
-pub mod ForwardNets
-pub mod ForwardPass
 pub mod HarderTimes
 pub mod HeldSignals
 pub mod KindRows
@@ -22,4 +18,3 @@ pub mod SlackRanges
 pub mod Statements
 pub mod TimingParts
 pub mod TracedPaths
-pub mod WholeTiming
