@@ -70,7 +70,7 @@ impl SettledBlock {
         let circuit = Circuit {
             nets: self.network.nets(),
             arcs: self.network.arcs(),
-            order: self.network.placed(),
+            order: self.network.order(),
             fan_out: self.network.fan_out(),
         };
         Ok(timer::time::<M, S>(model, &circuit, signals, required, slacks, path)?)
