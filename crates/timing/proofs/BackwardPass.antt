@@ -1,8 +1,8 @@
 -- Required times net by net, against the topological order. Assumes nothing.
-use Rattle.std.proofs.Common.{◌≡◌, ℕ, suc, ◌+◌, ◌-◌, ◌*◌, ◌<◌, ◌≤◌, Bool, true, false, cond, ltb, ◌⊎◌, List, map, reverse, length, get_or, ℤ, pos, ◌-ℤ◌, neg_ℤ, ◌≤ℤ◌, ◌<ℤ◌, Some, None, Option, sym, refl, ap, ◌∙◌, subst, inl, inr, arith}
+use Rattle.std.proofs.Common.{◌≡◌, ℕ, suc, ◌+◌, ◌-◌, ◌*◌, ◌<◌, ◌≤◌, Bool, true, false, cond, ltb, ◌⊎◌, List, reverse, length, get_or, ℤ, pos, ◌-ℤ◌, neg_ℤ, ◌≤ℤ◌, Some, None, Option, sym, refl, ap, ◌∙◌, subst, inl, inr, arith}
 use native.Mathlib.Decide.{ℕ_discrete}
 use borrow.Rule.Slice.PartMut.{put_mid}
-use Rattle.std.proofs.lemmas.List.{get_or_past, get_or_read, get_or-map, get_or-reverse, length-map, length-reverse}
+use Rattle.std.proofs.lemmas.List.{get_or_past, get_or_read, get_or-reverse, length-reverse}
 use Rattle.std.proofs.lemmas.Int.{ints}
 use Rattle.std.proofs.lemmas.Bool.{cases_lt, lt-ltb, le-ltb}
 use Rattle.units.specs.Senses.{Order}
@@ -15,14 +15,13 @@ use Rattle.paths.specs.Slacks.{First, limit_at}
 use Rattle.paths.specs.ArcByArc.{RequiredTable, RequiredByArcs, RequiredByNets}
 use Rattle.paths.specs.Ranges.{RequiredFits}
 use Rattle.paths.proofs.Firsts.{first_is}
-use Rattle.paths.proofs.Options.{none_is_not_some}
+use Rattle.std.proofs.lemmas.Option.{none-some}
 use Rattle.paths.proofs.Places.{at_place}
-use Rattle.timing.specs.Areas.{none_value, figure, entry_of, required_entry, required_in_area, FiguresPast}
+use Rattle.timing.specs.Areas.{figure, required_entry, required_in_area, FiguresPast}
 use Rattle.timing.specs.Passes.{Backward}
 use Rattle.timing.specs.RequiredRows.{AsHard, HeadsReady, RequiredRow}
 use Rattle.timing.specs.declared.circuit.Circuit.{Circuit}
 use Rattle.timing.proofs.Circuits.{circuit_order}
-use Rattle.timing.proofs.Figures.{entry_stands}
 use Rattle.timing.proofs.HarderTimes.{first_same}
 use Rattle.timing.proofs.RowWrites.{RowWritten, row_written}
 
@@ -35,9 +34,6 @@ more_arcs j k r h (low, high) = (omega (arith, ints), high)
 
 one_arc_more : (k delay : ℕ) (q r : ℤ) → delay ≤ max_delay → WithinArcs k q → r ≡ q -ℤ pos delay → WithinArcs (suc k) r
 one_arc_more k delay q r short (low, high) e = (omega (arith, ints), omega (arith, ints))
-
-within_above : (k : ℕ) (r : ℤ) → k ≤ max_path → WithinArcs k r → none_value <ℤ r
-within_above k r h (low, high) = omega (arith, ints)
 
 limit_within : (k limit : ℕ) (r : ℤ) → limit ≤ largest_limit → r ≡ pos limit → WithinArcs k r
 limit_within k limit r h e = (omega (arith, ints), omega (arith, ints))
@@ -58,8 +54,8 @@ no_limit : (b : Block) (o : Order) (n limit : ℕ) → length b.nets ≤ n → �
 no_limit b o n limit past e = none o.is_late (sym (ap (λ (net : Net). cond o.is_late net.late_limit net.early_limit) (get_or_past b.nets n no_net past)) ∙ e)
   where
     none : (late : Bool) → ¬ (cond late no_net.late_limit no_net.early_limit ≡ Some limit)
-    none true = none_is_not_some limit
-    none false = none_is_not_some limit
+    none true = none-some limit
+    none false = none-some limit
 
 -- the nets from the place p of the order on have their rows
 pub record RequiredFrom (b : Block) (m : Meaning) (o : Order) (order : List ℕ) (p : ℕ) (was is : List ℤ) : Type 0 where
@@ -136,7 +132,7 @@ module _ (circuit : Circuit) (m : Meaning) (law : Lawful m) (o : Order) where
           more_arcs (nets - suc (place_of order (head_of b.arcs i))) max_path r (omega (arith, few)) (done.range (head_of b.arcs i) s r (joined i is-arc).1 (head_done i is-arc from) fits e);
     }
 
-    module _ (row : List (Option ℤ)) (long : length row ≡ step_count) (is : List ℤ) (required : RequiredRow b m o (required_entry mid) net row) (written : RowWritten net (map entry_of row) mid is) where
+    module _ (row is : List ℤ) (required : RequiredRow b m o (required_entry mid) net row) (written : RowWritten net row mid is) where
       -- a net further on is another, and is left as it was
       kept : (n s : ℕ) → suc p ≤ place_of order n → s ≤ last_step → required_entry is n s ≡ required_entry mid n s
       kept n s after fits = ap figure (written.other n s (λ e. let same : place_of order n ≡ p = ap (place_of order) e ∙ net_place in omega arith) fits)
@@ -149,8 +145,16 @@ module _ (circuit : Circuit) (m : Meaning) (law : Lawful m) (o : Order) where
           let after = head_after i n is-arc from in
           in_area nets mid head s within fits ∙ sym (kept head s (omega arith) fits) ∙ sym (in_area nets is head s within fits)
 
-      row_range : (s : ℕ) (r : ℤ) → s ≤ last_step → get_or row s None ≡ Some r → WithinArcs (nets - suc p) r
-      row_range s r fits e = go (first_is (AsHard o) (RequiredByArcs b m o (required_entry mid) net s) (get_or row s None) (required s fits) r e)
+      here : (s : ℕ) → s ≤ last_step → required_entry is net s ≡ figure (get_or row s (pos 0))
+      here s fits = ap figure (written.here s fits)
+
+      new_row : (s : ℕ) → s ≤ last_step → First (AsHard o) (RequiredByArcs b m o (required_in_area nets is) net s) (required_entry is net s)
+      new_row s fits =
+          subst (First (AsHard o) (RequiredByArcs b m o (required_in_area nets is) net s)) (sym (here s fits))
+          (first_required (required_entry mid) (required_in_area nets is) net s (λ i u is-arc from h. sym (in_area nets mid (head_of b.arcs i) u (joined i is-arc).1 h) ∙ heads_kept net i u (omega (arith, net_place)) is-arc from h) (figure (get_or row s (pos 0))) (required s fits))
+
+      new_range : (s : ℕ) (r : ℤ) → s ≤ last_step → required_entry is net s ≡ Some r → WithinArcs (nets - suc p) r
+      new_range s r fits e = go (first_is (AsHard o) (RequiredByArcs b m o (required_entry mid) net s) (figure (get_or row s (pos 0))) (required s fits) r (sym (here s fits) ∙ e))
         where
           go : RequiredByArcs b m o (required_entry mid) net s r → WithinArcs (nets - suc p) r
           go (inl (limit, el, er)) = limit_within (nets - suc p) limit r (limit_fits b o circuit.lates circuit.earlies net limit el) er
@@ -161,20 +165,6 @@ module _ (circuit : Circuit) (m : Meaning) (law : Lawful m) (o : Order) where
               let within = head_place i is-arc in
               let head-range = done.range head (m.output_step kind s) q (joined i is-arc).1 after (law.output_step.fits kind s) eq in
               more_arcs (suc (nets - suc (place_of order head))) (nets - suc p) r (omega arith) (one_arc_more (nets - suc (place_of order head)) (m.delay kind s) q r (law.delay.fits kind s) head-range er)
-
-      -- so the entries that are written stand for the row
-      here : (s : ℕ) → s ≤ last_step → required_entry is net s ≡ get_or row s None
-      here s fits =
-          ap figure (written.here s fits ∙ get_or-map entry_of row s None (pos 0) (omega arith))
-          ∙ entry_stands (get_or row s None) (λ r e. within_above (nets - suc p) r (omega (arith, few)) (row_range s r fits e))
-
-      new_row : (s : ℕ) → s ≤ last_step → First (AsHard o) (RequiredByArcs b m o (required_in_area nets is) net s) (required_entry is net s)
-      new_row s fits =
-          subst (First (AsHard o) (RequiredByArcs b m o (required_in_area nets is) net s)) (sym (here s fits))
-          (first_required (required_entry mid) (required_in_area nets is) net s (λ i u is-arc from h. sym (in_area nets mid (head_of b.arcs i) u (joined i is-arc).1 h) ∙ heads_kept net i u (omega (arith, net_place)) is-arc from h) (get_or row s None) (required s fits))
-
-      new_range : (s : ℕ) (r : ℤ) → s ≤ last_step → required_entry is net s ≡ Some r → WithinArcs (nets - suc p) r
-      new_range s r fits e = row_range s r fits (sym (here s fits) ∙ e)
 
       -- a net from the place on is the one of the place, or stands further on
       this_or_later : (n : ℕ) → n < nets → p ≤ place_of order n → (net ≡ n) ⊎ (suc p ≤ place_of order n)
@@ -231,16 +221,15 @@ module _ (circuit : Circuit) (m : Meaning) (law : Lawful m) (o : Order) where
     pub heads_ready : step_count * nets ≤ length mid → HeadsReady b.arcs n mid
     heads_ready room = subst (λ (k : ℕ). HeadsReady b.arcs k mid) turned (heads_ready_at p was mid placed done_here room)
 
-    pub required_turn : (k count' : ℕ) (row : List (Option ℤ)) (part : List ℤ) → step_count * nets ≤ length mid → k ≡ step_count → count' ≡ count + 1 → length row ≡ step_count → part ≡ map entry_of row → RequiredRow b m o (required_entry mid) n row → RequiredFrom b m o order (length order - count') was (put_mid (step_count * n) k mid part)
+    pub required_turn : (k count' : ℕ) (row part : List ℤ) → step_count * nets ≤ length mid → k ≡ step_count → count' ≡ count + 1 → length row ≡ step_count → part ≡ row → RequiredRow b m o (required_entry mid) n row → RequiredFrom b m o order (length order - count') was (put_mid (step_count * n) k mid part)
     required_turn k count' row part room part-long counted long same required =
         let within = net_within p was mid placed done_here in
         let next : p ≡ length order - count' = omega arith in
-        let entries = map entry_of row in
-        let done_more = required_more p was mid placed done_here row long (put_mid (step_count * get_or order p 0) k mid entries) (subst (λ (v : ℕ). RequiredRow b m o (required_entry mid) v row) (sym turned) required)
-        (row_written (get_or order p 0) k entries mid part-long (omega arith) (length-map row entry_of ∙ long)) in
+        let done_more = required_more p was mid placed done_here row (put_mid (step_count * get_or order p 0) k mid row) (subst (λ (v : ℕ). RequiredRow b m o (required_entry mid) v row) (sym turned) required)
+        (row_written (get_or order p 0) k row mid part-long (omega arith) long) in
         subst (λ (q : ℕ). RequiredFrom b m o order q was (put_mid (step_count * n) k mid part)) next
         (subst (λ (v : List ℤ). RequiredFrom b m o order p was (put_mid (step_count * n) k mid v)) (sym same)
-        (subst (λ (v : ℕ). RequiredFrom b m o order p was (put_mid (step_count * v) k mid entries)) turned done_more))
+        (subst (λ (v : ℕ). RequiredFrom b m o order p was (put_mid (step_count * v) k mid row)) turned done_more))
 
   -- after the loop every net has
   pub backward : (p : ℕ) (was is : List ℤ) → p ≤ 0 → RequiredFrom b m o order p was is → Backward b m o was is

@@ -7,7 +7,7 @@ use Rattle.paths.specs.Blocks.{max_path}
 use Rattle.paths.specs.Slacks.{WorstSlack}
 use Rattle.paths.specs.ArcByArc.{Timeable}
 use Rattle.paths.proofs.Firsts.{first_is}
-use Rattle.paths.proofs.Options.{none_is_not_some, some_injective}
+use Rattle.std.proofs.lemmas.Option.{none-some, same_Some}
 use Rattle.timing.specs.declared.answers.SignalRecord.{SignalRecord}
 use Rattle.timing.specs.declared.answers.Answer.{Answer}
 use Rattle.timing.specs.declared.circuit.Circuit.{Circuit}
@@ -46,7 +46,7 @@ module _ {c : Circuit} {m : Meaning} {o : Order} {was : Areas} {signals : List S
   pub timed_none : (r : ℤ) → r ≡ entry_of worst → worst ≡ None → Timed (circuit_block c) m o was (areas signals required slacks was.path) (answer r 0 0 carried)
   timed_none r e none =
       timed (circuit_block c) m o c.order.now was (areas signals required slacks was.path) (answer r 0 0 carried) F.timeable F.forward F.backward F.filled (least_of r e)
-      (λ z q. absurd (none_is_not_some z (sym none ∙ sym (stands r e) ∙ q))) (omega arith) (λ _. (e ∙ ap entry_of none, refl, refl)) (λ i _. refl)
+      (λ z q. absurd (none-some z (sym none ∙ sym (stands r e) ∙ q))) (omega arith) (λ _. (e ∙ ap entry_of none, refl, refl)) (λ i _. refl)
 
   module _ (z : ℤ) (some : worst ≡ Some z) where
     pub has_end : (n : ℕ) × (s : ℕ) × EndAt c.nets.now o signals z n s
@@ -61,6 +61,6 @@ module _ {c : Circuit} {m : Meaning} {o : Order} {was : Areas} {signals : List S
       pub timed_path : (r : ℤ) (start count : ℕ) (path : List ℕ) → r ≡ entry_of worst → TracedRun c.arcs.now signals end step start (take count path) → count ≤ max_path → ArcsPast count was.path path → Timed (circuit_block c) m o was (areas signals required slacks path) (answer r start count carried)
       timed_path r start count path e run short past =
           timed (circuit_block c) m o c.order.now was (areas signals required slacks path) (answer r start count carried) F.timeable F.forward F.backward F.filled (least_of r e)
-          (λ y q. subst (PathAnswered (circuit_block c) m o path (answer r start count carried)) (some_injective z y (sym some ∙ sym (stands r e) ∙ q))
+          (λ y q. subst (PathAnswered (circuit_block c) m o path (answer r start count carried)) (same_Some z y (sym some ∙ sym (stands r e) ∙ q))
           (traced_answered c.nets.now c.arcs.now m o c.order.now was.signals signals carried z end step path (answer r start count carried) c.few.0 room (circuit_order c) F.forward E run))
-          short (λ q. absurd (none_is_not_some z (sym q ∙ stands r e ∙ some))) past
+          short (λ q. absurd (none-some z (sym q ∙ stands r e ∙ some))) past

@@ -6,10 +6,10 @@ ghost use Rattle.timing.specs.Areas.{ArcsPast};
 ghost use Rattle.timing.specs.Passes.{launched_mark};
 ghost use Rattle.timing.specs.WorstPaths.{EndAt, EndStep, SomeTraceable, TracedRun};
 
-use crate::answers::{LAUNCHED, SignalRecord, place};
+use crate::answers::{LAUNCHED, SignalRecord, place, row};
 use crate::circuit::Circuit;
 use crate::required::limit_of;
-use crate::slacks::{row, slack_of};
+use crate::slacks::slack_of;
 use units::senses::Sense;
 
 // A step at which the net's signal has that slack against the limit, where there is one.
@@ -67,14 +67,14 @@ fn trace_back(
 {
     let mut net = end;
     let mut signal = signals[place(end, step)];
-    let mut count = 0;
+    let mut count: u16 = 0;
     while let Some(arc) = signal.came_over() {
-        path[count] = arc;
+        path[usize::from(count)] = arc;
         count += 1;
         net = circuit.arcs[usize::from(arc)].tail;
         signal = signals[place(net, signal.step)];
     }
-    (net, count as u16)
+    (net, count)
 }
 
 // Writes the arcs of a path to the end, from its start on; answers the start net and the number of arcs.

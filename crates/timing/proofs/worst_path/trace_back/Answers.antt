@@ -9,25 +9,22 @@ use Rattle.timing.proofs.worst_path.trace_back.Goals.{In-Some}
 room : (c : In-Some) → (c.loop-arc.count < max_path) × (c.in-Some.arc < length c.args.circuit.now.arcs.now) × (place (tail_of c.args.circuit.now.arcs.now c.in-Some.arc) c.loop-arc.signal.step < length c.args.signals.now)
 room c = rw c.in-Some.ensures.0 (each_room _ _ _ _ _ _ _ _ (λ q. c.in-Some.ensures.1 (c.in-Some.ensures.0 ∙ q)) c.requires.traceable c.loop-arc.invariant.1)
 
-pub offset_bounds-path-count : goal.offset_bounds-path-count
-offset_bounds-path-count c = let few = (room (goal.at.offset_bounds-path-count c).In-Some).0 in search rules
-
-pub bounds-path-count : goal.bounds-path-count
-bounds-path-count c = omega (arith, (room (goal.at.bounds-path-count c).In-Some).0, c.requires.room)
+pub bounds-path-from : goal.bounds-path-from
+bounds-path-from c = rw c.from.ensures (omega (arith, (room (goal.at.bounds-path-from c).In-Some).0, c.requires.room))
 
 pub overflow_add-count : goal.overflow_add-count
 overflow_add-count c = let few = (room (goal.at.overflow_add-count c).In-Some).0 in search rules
 
 pub bounds-circuit-from : goal.bounds-circuit-from
-bounds-circuit-from c = rw c.from.ensures (room (goal.at.bounds-circuit-from c).In-Some).1
+bounds-circuit-from c = rw c.from-in-Some.ensures (room (goal.at.bounds-circuit-from c).In-Some).1
 
 pub offset_bounds-signals-place-in-Some : goal.offset_bounds-signals-place-in-Some
 offset_bounds-signals-place-in-Some c =
-    let at : c.place-in-Some.result < length c.args.signals.now = rw (c.place-in-Some.ensures, c.from.ensures) (room (goal.at.offset_bounds-signals-place-in-Some c).In-Some).2 in
+    let at : c.place-in-Some.result < length c.args.signals.now = rw (c.place-in-Some.ensures, c.from-in-Some.ensures) (room (goal.at.offset_bounds-signals-place-in-Some c).In-Some).2 in
     search rules
 
 pub bounds-signals-place-in-Some : goal.bounds-signals-place-in-Some
-bounds-signals-place-in-Some c = rw (c.place-in-Some.ensures, c.from.ensures) (room (goal.at.bounds-signals-place-in-Some c).In-Some).2
+bounds-signals-place-in-Some c = rw (c.place-in-Some.ensures, c.from-in-Some.ensures) (room (goal.at.bounds-signals-place-in-Some c).In-Some).2
 
 pub loop-arc-smaller : goal.loop-arc-smaller
 loop-arc-smaller c = omega (arith, (room (goal.at.loop-arc-smaller c).In-Some).0)
@@ -38,12 +35,7 @@ loop-arc-preserved c =
     let count = c.loop-arc.count in
     let arc = c.in-Some.ensures in
     let within : count < length path = omega (arith, (room (goal.at.loop-arc-preserved c).In-Some).0, c.requires.room) in
-    rw (c.place-in-Some.ensures, c.from.ensures, arc.0) (past_on c.args.path.now path count _ c.loop-arc.invariant.0, each_on _ _ _ _ path _ count c.loop-arc.signal within (λ q. arc.1 (arc.0 ∙ q)) c.loop-arc.invariant.1)
-
-pub overflow_cast-result : goal.overflow_cast-result
-overflow_cast-result c =
-    let few : c.loop-arc.count ≤ max_path = each_few _ _ _ _ _ _ _ _ c.requires.traceable c.loop-arc.invariant.1 in
-    search rules
+    rw (c.place-in-Some.ensures, c.from.ensures, c.from-in-Some.ensures, arc.0) (past_on c.args.path.now path count _ c.loop-arc.invariant.0, each_on _ _ _ _ path _ count c.loop-arc.signal within (λ q. arc.1 (arc.0 ∙ q)) c.loop-arc.invariant.1)
 
 pub returns : goal.returns
 returns c =
