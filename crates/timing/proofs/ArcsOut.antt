@@ -10,10 +10,12 @@ use Rattle.paths.specs.declared.blocks.Arc.{Arc}
 use Rattle.paths.specs.Blocks.{Block, no_arc, net_of, tail_of}
 use Rattle.paths.specs.Slacks.{First, limit_at}
 use Rattle.paths.specs.ArcByArc.{RequiredTable, RequiredByArcs}
-use Rattle.paths.proofs.Options.{none_is_not_some, some_injective}
+use Rattle.std.proofs.lemmas.Option.{none-some, same_Some}
 use Rattle.network.specs.FanOuts.{arcs_out}
 use Rattle.network.proofs.FanOuts.{NextOut, next_listed, none_listed}
+use Rattle.timing.specs.Areas.{figure}
 use Rattle.timing.specs.RequiredRows.{as_figure, limit_figure, AsHard, HarderOf, less_delay, required_over, RowOver, RequiredRow}
+use Rattle.timing.proofs.Figures.{limit_is}
 use Rattle.timing.proofs.HarderTimes.{OrFigure, first_same, alone, harder_first}
 
 -- what an arc requires: a required time of its head, less the delay
@@ -22,41 +24,41 @@ module _ (m : Meaning) (R : RequiredTable) (arc : Arc) (s : ℕ) (r : ℤ) where
   over_is = go (R arc.head (m.output_step arc.kind s)) refl
     where
       go : (x : Option ℤ) → R arc.head (m.output_step arc.kind s) ≡ x → less_delay x (m.delay arc.kind s) ≡ Some r → (q : ℤ) × (R arc.head (m.output_step arc.kind s) ≡ Some q) × (r ≡ q -ℤ pos (m.delay arc.kind s))
-      go None f h = absurd (none_is_not_some r h)
-      go (Some q) f h = (q, f, sym (some_injective (q -ℤ pos (m.delay arc.kind s)) r h))
+      go None f h = absurd (none-some r h)
+      go (Some q) f h = (q, f, sym (same_Some (q -ℤ pos (m.delay arc.kind s)) r h))
 
   pub is_over : (q : ℤ) → R arc.head (m.output_step arc.kind s) ≡ Some q → r ≡ q -ℤ pos (m.delay arc.kind s) → required_over m R arc s ≡ Some r
   is_over q e g = ap (λ (x : Option ℤ). less_delay x (m.delay arc.kind s)) e ∙ ap Some (sym g)
 
 -- one arc, step by step: the first k steps of the row hold the harder, the others what they held
-pub record OverBelow (m : Meaning) (o : Order) (R : RequiredTable) (arc : Arc) (k : ℕ) (was is : List (Option ℤ)) : Type 0 where
+pub record OverBelow (m : Meaning) (o : Order) (R : RequiredTable) (arc : Arc) (k : ℕ) (was is : List ℤ) : Type 0 where
   pub long : length is ≡ length was
-  pub done : (s : ℕ) → s < k → HarderOf o (get_or was s None) (required_over m R arc s) (get_or is s None)
-  pub left : (s : ℕ) → k ≤ s → get_or is s None ≡ get_or was s None
+  pub done : (s : ℕ) → s < k → HarderOf o (figure (get_or was s (pos 0))) (required_over m R arc s) (figure (get_or is s (pos 0)))
+  pub left : (s : ℕ) → k ≤ s → get_or is s (pos 0) ≡ get_or was s (pos 0)
 
-module _ (m : Meaning) (o : Order) (R : RequiredTable) (arc : Arc) (was : List (Option ℤ)) where
+module _ (m : Meaning) (o : Order) (R : RequiredTable) (arc : Arc) (was : List ℤ) where
   pub over_none : OverBelow m o R arc 0 was was
   over_none = record { long = refl; done = λ s h. absurd (omega arith); left = λ s h. refl }
 
-  pub over_more : (k : ℕ) (is : List (Option ℤ)) (held r : Option ℤ) → k < length is → held ≡ get_or is k None → HarderOf o held (required_over m R arc k) r → OverBelow m o R arc k was is → OverBelow m o R arc (k + 1) was (set is k r)
-  over_more k is held r within e harder O = record {
-    long = length-set is k r ∙ O.long;
+  pub over_more : (k : ℕ) (is : List ℤ) (w : ℤ) → k < length is → HarderOf o (figure (get_or is k (pos 0))) (required_over m R arc k) (figure w) → OverBelow m o R arc k was is → OverBelow m o R arc (k + 1) was (set is k w)
+  over_more k is w within harder O = record {
+    long = length-set is k w ∙ O.long;
     done = λ s h. elim (ℕ_discrete s k) [
-      | yes q ↦ subst (λ (v : ℕ). HarderOf o (get_or was v None) (required_over m R arc v) (get_or (set is k r) v None)) (sym q) here
-      | no ne ↦ subst (HarderOf o (get_or was s None) (required_over m R arc s)) (sym (get_or-set_other is k s r None ne)) (O.done s (omega arith))
+      | yes q ↦ subst (λ (v : ℕ). HarderOf o (figure (get_or was v (pos 0))) (required_over m R arc v) (figure (get_or (set is k w) v (pos 0)))) (sym q) here
+      | no ne ↦ subst (λ (z : ℤ). HarderOf o (figure (get_or was s (pos 0))) (required_over m R arc s) (figure z)) (sym (get_or-set_other is k s w (pos 0) ne)) (O.done s (omega arith))
     ];
-    left = λ s h. get_or-set_other is k s r None (other s h) ∙ O.left s (omega arith);
+    left = λ s h. get_or-set_other is k s w (pos 0) (other s h) ∙ O.left s (omega arith);
   }
     where
       other : (s : ℕ) → k + 1 ≤ s → ¬ (s ≡ k)
       other s h q = omega arith
 
-      here : HarderOf o (get_or was k None) (required_over m R arc k) (get_or (set is k r) k None)
+      here : HarderOf o (figure (get_or was k (pos 0))) (required_over m R arc k) (figure (get_or (set is k w) k (pos 0)))
       here =
-          subst (HarderOf o (get_or was k None) (required_over m R arc k)) (sym (get_or-set_same is k r None within))
-          (subst (λ (x : Option ℤ). HarderOf o x (required_over m R arc k) r) (e ∙ O.left k (omega arith)) harder)
+          subst (λ (z : ℤ). HarderOf o (figure (get_or was k (pos 0))) (required_over m R arc k) (figure z)) (sym (get_or-set_same is k w (pos 0) within))
+          (subst (λ (z : ℤ). HarderOf o (figure z) (required_over m R arc k) (figure w)) (O.left k (omega arith)) harder)
 
-  pub over_all : (k : ℕ) (is : List (Option ℤ)) → step_count ≤ k → OverBelow m o R arc k was is → RowOver m o R arc was is
+  pub over_all : (k : ℕ) (is : List ℤ) → step_count ≤ k → OverBelow m o R arc k was is → RowOver m o R arc was is
   over_all k is h O s fits = O.done s (omega arith)
 
 -- the limit, or what an arc out of the net with a number below k requires
@@ -65,26 +67,26 @@ RequiredBelow m R arcs limit n s k r =
     (limit ≡ Some r) ⊎ ((j : ℕ) × (j < k) × (j < length arcs) × (tail_of arcs j ≡ n) × (required_over m R (get_or arcs j no_arc) s ≡ Some r))
 
 -- these are taken into the row, and from a place on the list holds the arcs out of the net with other numbers
-pub record TakenBefore (m : Meaning) (o : Order) (R : RequiredTable) (arcs : List Arc) (limit : Option ℤ) (n : ℕ) (list : List ℕ) (at : ℕ) (row : List (Option ℤ)) : Type 0 where
+pub record TakenBefore (m : Meaning) (o : Order) (R : RequiredTable) (arcs : List Arc) (limit : Option ℤ) (n : ℕ) (list : List ℕ) (at : ℕ) (row : List ℤ) : Type 0 where
   pub next : ℕ
   pub left : drop at list ≡ arcs_out (drop next arcs) n next
-  pub hardest : (s : ℕ) → s ≤ last_step → First (AsHard o) (RequiredBelow m R arcs limit n s next) (get_or row s None)
+  pub hardest : (s : ℕ) → s ≤ last_step → First (AsHard o) (RequiredBelow m R arcs limit n s next) (figure (get_or row s (pos 0)))
 
 module _ (m : Meaning) (o : Order) (law : Lawful o) (R : RequiredTable) (arcs : List Arc) (limit : Option ℤ) (n : ℕ) (list : List ℕ) where
   -- the row is the limit at each step, and all the arcs are left
-  pub taken_none : (entry : Option ℤ) → list ≡ arcs_out arcs n 0 → entry ≡ limit → TakenBefore m o R arcs limit n list 0 (replicate step_count entry)
+  pub taken_none : (entry : ℤ) → list ≡ arcs_out arcs n 0 → figure entry ≡ limit → TakenBefore m o R arcs limit n list 0 (replicate step_count entry)
   taken_none entry all e = record {
     next = 0;
     left = all;
     hardest = λ s fits.
-        subst (First (AsHard o) (RequiredBelow m R arcs limit n s 0)) (sym (get_or-replicate step_count s entry None (omega arith) ∙ e))
+        subst (First (AsHard o) (RequiredBelow m R arcs limit n s 0)) (sym (ap figure (get_or-replicate step_count s entry (pos 0) (omega arith)) ∙ e))
         (first_same (AsHard o) (λ z. limit ≡ Some z) (RequiredBelow m R arcs limit n s 0) (λ z h. inl h) (λ z. elim [ inl h ↦ h | inr h ↦ absurd (none_below h.0 h.1) ]) limit (alone o law limit));
   }
     where
       none_below : (j : ℕ) → ¬ (j < 0)
       none_below j h = omega arith
 
-  module _ (at : ℕ) (row : List (Option ℤ)) (T : TakenBefore m o R arcs limit n list at row) (lt : at < length list) where
+  module _ (at : ℕ) (row : List ℤ) (T : TakenBefore m o R arcs limit n list at row) (lt : at < length list) where
     abbrev arc : ℕ
     arc = get_or list at 0
 
@@ -92,13 +94,13 @@ module _ (m : Meaning) (o : Order) (law : Lawful o) (R : RequiredTable) (arcs : 
     next_arc = next_listed arcs n T.next at list lt T.left
 
     -- one arc more
-    pub taken_more : (row' : List (Option ℤ)) → RowOver m o R (get_or arcs arc no_arc) row row' → TakenBefore m o R arcs limit n list (at + 1) row'
+    pub taken_more : (row' : List ℤ) → RowOver m o R (get_or arcs arc no_arc) row row' → TakenBefore m o R arcs limit n list (at + 1) row'
     taken_more row' over = record {
       next = arc + 1;
       left = next_arc.4;
       hardest = λ s fits.
-          first_same (AsHard o) (OrFigure (RequiredBelow m R arcs limit n s T.next) (required_over m R (get_or arcs arc no_arc) s)) (RequiredBelow m R arcs limit n s (arc + 1)) (into s) (back s) (get_or row' s None)
-          (harder_first o law (RequiredBelow m R arcs limit n s T.next) (get_or row s None) (required_over m R (get_or arcs arc no_arc) s) (get_or row' s None) (over s fits) (T.hardest s fits));
+          first_same (AsHard o) (OrFigure (RequiredBelow m R arcs limit n s T.next) (required_over m R (get_or arcs arc no_arc) s)) (RequiredBelow m R arcs limit n s (arc + 1)) (into s) (back s) (figure (get_or row' s (pos 0)))
+          (harder_first o law (RequiredBelow m R arcs limit n s T.next) (figure (get_or row s (pos 0))) (required_over m R (get_or arcs arc no_arc) s) (figure (get_or row' s (pos 0))) (over s fits) (T.hardest s fits));
     }
       where
         into : (s : ℕ) (r : ℤ) → OrFigure (RequiredBelow m R arcs limit n s T.next) (required_over m R (get_or arcs arc no_arc) s) r → RequiredBelow m R arcs limit n s (arc + 1) r
@@ -117,16 +119,12 @@ module _ (m : Meaning) (o : Order) (law : Lawful o) (R : RequiredTable) (arcs : 
         ]
 
 -- when none is left the row is the net's
-pub taken_all : (b : Block) (m : Meaning) (o : Order) (R : RequiredTable) (n : ℕ) (list : List ℕ) (at : ℕ) (row : List (Option ℤ)) → length list ≤ at → TakenBefore m o R b.arcs (limit_figure o (net_of b n)) n list at row → RequiredRow b m o R n row
+pub taken_all : (b : Block) (m : Meaning) (o : Order) (R : RequiredTable) (n : ℕ) (list : List ℕ) (at : ℕ) (row : List ℤ) → length list ≤ at → TakenBefore m o R b.arcs (limit_figure o (net_of b n)) n list at row → RequiredRow b m o R n row
 taken_all b m o R n list at row past T s fits =
-    first_same (AsHard o) (RequiredBelow m R b.arcs (limit_figure o (net_of b n)) n s T.next) (RequiredByArcs b m o R n s) into back (get_or row s None) (T.hardest s fits)
+    first_same (AsHard o) (RequiredBelow m R b.arcs (limit_figure o (net_of b n)) n s T.next) (RequiredByArcs b m o R n s) into back (figure (get_or row s (pos 0))) (T.hardest s fits)
   where
-    limit_is : (x : Option ℕ) (r : ℤ) → limit_at b o n ≡ x → as_figure x ≡ Some r → (limit : ℕ) × (limit_at b o n ≡ Some limit) × (r ≡ pos limit)
-    limit_is None r e h = absurd (none_is_not_some r h)
-    limit_is (Some limit) r e h = (limit, e, sym (some_injective (pos limit) r h))
-
     into : (r : ℤ) → RequiredBelow m R b.arcs (limit_figure o (net_of b n)) n s T.next r → RequiredByArcs b m o R n s r
-    into r (inl e) = inl (limit_is (limit_at b o n) r refl e)
+    into r (inl e) = inl (limit_is (limit_at b o n) r e)
     into r (inr (j, h, is-arc, from, e)) =
         let (q, eq, er) = over_is m R (get_or b.arcs j no_arc) s r e in
         inr (j, q, is-arc, from, eq, er)

@@ -11,7 +11,7 @@ use Rattle.paths.specs.Slacks.{Least}
 use Rattle.paths.specs.ArcByArc.{SlackHeld}
 use Rattle.paths.specs.Ranges.{latest_time, RequiredFits}
 use Rattle.paths.proofs.Firsts.{first_is}
-use Rattle.paths.proofs.Options.{none_is_not_some, some_injective}
+use Rattle.std.proofs.lemmas.Option.{none-some, same_Some}
 use Rattle.timing.specs.declared.answers.SignalRecord.{SignalRecord}
 use Rattle.timing.specs.Areas.{place, record_at, held_by, inside, held_in_area, figure, required_entry, required_in_area, slack_entry, entry_of}
 use Rattle.timing.specs.Passes.{SlacksFilled}
@@ -23,9 +23,9 @@ use Rattle.timing.proofs.TracedPaths.{held_is}
 
 -- a slack is that of a time and a required time
 pub slack_of_both : (o : Order) (held : Option ℕ) (required : Option ℤ) (z : ℤ) → slack_figure o held required ≡ Some z → (t : ℕ) × (r : ℤ) × (held ≡ Some t) × (required ≡ Some r) × (z ≡ o.slack (pos t) r)
-slack_of_both o None required z e = absurd (none_is_not_some z e)
-slack_of_both o (Some t) None z e = absurd (none_is_not_some z e)
-slack_of_both o (Some t) (Some r) z e = (t, r, refl, refl, sym (some_injective (o.slack (pos t) r) z e))
+slack_of_both o None required z e = absurd (none-some z e)
+slack_of_both o (Some t) None z e = absurd (none-some z e)
+slack_of_both o (Some t) (Some r) z e = (t, r, refl, refl, sym (same_Some (o.slack (pos t) r) z e))
 
 pub both_have_slack : (o : Order) (held : Option ℕ) (required : Option ℤ) (z : ℤ) (t : ℕ) (r : ℤ) → held ≡ Some t → required ≡ Some r → z ≡ o.slack (pos t) r → slack_figure o held required ≡ Some z
 both_have_slack o held required z t r et er ez = ap (λ (x : Option ℕ). slack_figure o x required) et ∙ ap (λ (x : Option ℤ). slack_figure o (Some t) x) er ∙ ap Some (sym ez)
@@ -40,8 +40,8 @@ table_inside nets n s x a = go (ltb n nets) refl (ltb s step_count) refl
   where
     go : (p : Bool) → ltb n nets ≡ p → (q : Bool) → ltb s step_count ≡ q → cond (cond p q false) x None ≡ Some a → (n < nets) × (s < step_count)
     go true ep true eq e = (ltb-true n nets ep, ltb-true s step_count eq)
-    go true ep false eq e = absurd (none_is_not_some a e)
-    go false ep q eq e = absurd (none_is_not_some a e)
+    go true ep false eq e = absurd (none-some a e)
+    go false ep q eq e = absurd (none-some a e)
 
 -- the least slack of a net lies within the range of slacks
 pub least_within : (o : Order) → (o ≡ late_order) ⊎ (o ≡ early_order) → (signals : List SignalRecord) (required : List ℤ) (n : ℕ) → ((s : ℕ) → s ≤ last_step → (record_at signals n s).time ≤ latest_time) → ((s : ℕ) (r : ℤ) → s ≤ last_step → required_entry required n s ≡ Some r → RequiredFits r) → (x : Option ℤ) → LeastOfRow o signals required n x → (z : ℤ) → x ≡ Some z → WithinWidest z

@@ -7,7 +7,7 @@ use Rattle.std.specs.List.{reduce, filter_map, cons_option}
 use Rattle.std.proofs.lemmas.Int.{ints}
 use Rattle.paths.specs.Slacks.{Least}
 use Rattle.paths.proofs.Firsts.{OrOneMore, first_keeps, first_takes, ≤ℤ-transitive, least_moved}
-use Rattle.paths.proofs.Options.{none_is_not_some, some_injective}
+use Rattle.std.proofs.lemmas.Option.{none-some, same_Some}
 
 -- the least of the same figures
 pub least_same : (Is Also : ℤ → Type 0) → ((z : ℤ) → Is z → Also z) → ((z : ℤ) → Also z → Is z) → (x : Option ℤ) → Least Is x → Least Also x
@@ -27,10 +27,10 @@ least_with Is a z least = go (lt_z a z) refl (lt_z z a) refl
     go : (p : Bool) → lt_z a z ≡ p → (q : Bool) → lt_z z a ≡ q → Least (OrOneMore Is z) (Some (min_by_ordering (cond p Less (cond q Greater Equal)) a z))
     go true ep q eq = first_keeps ◌≤ℤ◌ Is a z least (grind (arith, ints))
     go false ep false eq = first_keeps ◌≤ℤ◌ Is a z least (grind (arith, ints))
-    go false ep true eq = let h : z ≤ℤ a = grind (arith, ints) in first_takes ◌≤ℤ◌ Is z ≤ℤ-transitive (omega (arith, ints)) (Some a) least (λ c e. subst (λ (w : ℤ). z ≤ℤ w) (some_injective a c e) h)
+    go false ep true eq = let h : z ≤ℤ a = grind (arith, ints) in first_takes ◌≤ℤ◌ Is z ≤ℤ-transitive (omega (arith, ints)) (Some a) least (λ c e. subst (λ (w : ℤ). z ≤ℤ w) (same_Some a c e) h)
 
 one_more : (Is Also : ℤ → Type 0) (y : ℤ) (ys : List ℤ) (x : Option ℤ) → Least Is x → ((v : Option ℤ) → Least (OrOneMore Is y) v → Least Also (reduce lesser (cons_option v ys))) → Least Also (reduce lesser (cons_option x (y ∷ ys)))
-one_more Is Also y ys None least on = on (Some y) (first_takes ◌≤ℤ◌ Is y ≤ℤ-transitive (omega (arith, ints)) None least (λ a e. absurd (none_is_not_some a e)))
+one_more Is Also y ys None least on = on (Some y) (first_takes ◌≤ℤ◌ Is y ≤ℤ-transitive (omega (arith, ints)) None least (λ a e. absurd (none-some a e)))
 one_more Is Also y ys (Some a) least on = on (Some (lesser a y)) (least_with Is a y least)
 
 module _ {X : Type 0} (h : X → Option ℤ) (d : X) where
@@ -47,7 +47,7 @@ module _ {X : Type 0} (h : X → Option ℤ) (d : X) where
     where
       back : OrGiven Is (x ∷ xs) z → OrGiven Is xs z
       back (inl p) = inl p
-      back (inr (zero, lt, q)) = absurd (none_is_not_some z (sym e ∙ q))
+      back (inr (zero, lt, q)) = absurd (none-some z (sym e ∙ q))
       back (inr (suc i, lt, q)) = inr (i, omega arith, q)
 
   one_given : (Is : ℤ → Type 0) (y : ℤ) (x : X) (xs : List X) → h x ≡ Some y → (z : ℤ) → (OrGiven (OrOneMore Is y) xs z → OrGiven Is (x ∷ xs) z) × (OrGiven Is (x ∷ xs) z → OrGiven (OrOneMore Is y) xs z)
@@ -60,7 +60,7 @@ module _ {X : Type 0} (h : X → Option ℤ) (d : X) where
 
       back : OrGiven Is (x ∷ xs) z → OrGiven (OrOneMore Is y) xs z
       back (inl p) = inl (inl p)
-      back (inr (zero, lt, q)) = inl (inr (some_injective z y (sym q ∙ e)))
+      back (inr (zero, lt, q)) = inl (inr (same_Some z y (sym q ∙ e)))
       back (inr (suc i, lt, q)) = inr (i, omega arith, q)
 
   -- the least of some figures goes along with the list

@@ -1,9 +1,13 @@
 pub mod ArcsOut
 pub mod AreaParts
+pub mod BackwardPass
 pub mod CarriedSums
 pub mod Carrying
+pub mod Circuits
 pub mod Figures
 pub mod FilledSlacks
+pub mod ForwardNets
+pub mod ForwardPass
 pub mod HarderTimes
 pub mod HeldSignals
 pub mod KindRows
@@ -18,3 +22,4 @@ pub mod SlackRanges
 pub mod Statements
 pub mod TimingParts
 pub mod TracedPaths
+pub mod WholeTiming

@@ -11,7 +11,7 @@ use Rattle.paths.specs.Orders.{TopologicalOrder}
 use Rattle.paths.specs.Signals.{Signal, signal, along, Covers}
 use Rattle.paths.specs.Slacks.{limit_at, WorstSlack}
 use Rattle.paths.specs.ArcByArc.{Timeable}
-use Rattle.paths.proofs.Options.{none_is_not_some, some_injective}
+use Rattle.std.proofs.lemmas.Option.{none-some, same_Some}
 use Rattle.paths.proofs.Covering.{covers_prunes}
 use Rattle.paths.proofs.Pruning.{arrives_covered, held_arrives}
 use Rattle.timing.specs.declared.answers.Answer.{Answer}
@@ -21,13 +21,9 @@ use Rattle.timing.specs.Passes.{Forwarded}
 use Rattle.timing.specs.Timed.{PathAnswered}
 use Rattle.timing.specs.RequiredRows.{as_figure, limit_figure}
 use Rattle.timing.specs.WorstPaths.{EndAt, Traceable, ArrivesBy, TracedRun}
+use Rattle.timing.proofs.Figures.{limit_is}
 use Rattle.timing.proofs.FilledSlacks.{slack_of_both, both_have_slack, in_table, table_inside}
 use Rattle.timing.proofs.TracedPaths.{held_is}
-
--- a limit that is a figure
-limit_is : (limit : Option ℕ) (r : ℤ) → as_figure limit ≡ Some r → (t : ℕ) × (limit ≡ Some t) × (r ≡ pos t)
-limit_is None r e = absurd (none_is_not_some r e)
-limit_is (Some t) r e = (t, refl, sym (some_injective (pos t) r e))
 
 -- an end keeps a signal, its net has a limit, and they have the slack
 pub end_has : (b : Block) (o : Order) (signals : List SignalRecord) (z : ℤ) (n s : ℕ) → EndAt b.nets o signals z n s → (limit : ℕ) × ((record_at signals n s).kept ≡ true) × (limit_at b o n ≡ Some limit) × (z ≡ o.slack (pos (record_at signals n s).time) (pos limit))

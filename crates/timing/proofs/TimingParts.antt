@@ -13,7 +13,7 @@ use Rattle.paths.proofs.Pruning.{pruning_loses_nothing}
 use Rattle.paths.proofs.CountedRows.{rows_at_most, counted_by_rows}
 use Rattle.paths.proofs.RequiredTimes.{required_times_recurse}
 use Rattle.paths.proofs.NetSlacks.{slack_meets_at_nets, worst_of_nets}
-use Rattle.paths.proofs.Options.{none_is_not_some}
+use Rattle.std.proofs.lemmas.Option.{none-some}
 use Rattle.timing.specs.declared.answers.Answer.{Answer}
 use Rattle.timing.specs.declared.answers.SignalRecord.{SignalRecord}
 use Rattle.timing.specs.Areas.{record_at, held_by, held_in_area, figure, required_entry, required_in_area, slack_entry, slack_in_area, ArcsPast, none_value}
@@ -48,7 +48,7 @@ module _ (b : Block) (m : Meaning) (o : Order) (order : List ℕ) (timeable : Ti
       held_kept n s (record_at is n s).time (record_held n s h k true e),
       came_from_also b m o (λ i y. held i y.step ≡ Some y.time) (KeptSignal b m o) (λ i y. held_kept i y.step y.time) n (signal (record_at is n s).time s) (record_at is n s).arc (record_at is n s).step (forwarded.sources n s h k e),
     );
-    not_kept = λ e. ((λ t kept. none_is_not_some t (sym (record_held n s h k false e) ∙ kept_held n s t kept)), forwarded.blank n s h k e);
+    not_kept = λ e. ((λ t kept. none-some t (sym (record_held n s h k false e) ∙ kept_held n s t kept)), forwarded.blank n s h k e);
   }
 
   pub carried_counted : CarriedCount b m o count
@@ -101,7 +101,7 @@ module _ (b : Block) (m : Meaning) (o : Order) (order : List ℕ) (timeable : Ti
     where
       go : (v : Bool) → ltb n (length b.nets) ≡ v → cond v (slack_entry slacks n) None ≡ Some z → OfEntry z
       go true q e = (n, ltb-true n (length b.nets) q, e)
-      go false q e = absurd (none_is_not_some z e)
+      go false q e = absurd (none-some z e)
 
   pub worst_recorded : (z : Option ℤ) → LeastEntry (length b.nets) slacks z → WorstSlack b m o z
   worst_recorded z least = worst_of_nets b m o (slack_in_area (length b.nets) slacks) slack_all z (least_same OfEntry OfNet entry_net net_entry z least)

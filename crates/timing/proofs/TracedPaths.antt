@@ -10,7 +10,7 @@ use Rattle.paths.specs.Blocks.{Block, block, tail_of, head_of, max_path, max_arc
 use Rattle.paths.specs.Runs.{IsArc, Run}
 use Rattle.paths.specs.Orders.{place_of}
 use Rattle.paths.specs.Signals.{Signal, signal, along, carried}
-use Rattle.paths.proofs.Options.{none_is_not_some, some_injective}
+use Rattle.std.proofs.lemmas.Option.{none-some, same_Some}
 use Rattle.timing.specs.declared.answers.SignalRecord.{SignalRecord}
 use Rattle.timing.specs.Areas.{place, record_at, held_by, held_in_area, ArcsPast}
 use Rattle.timing.specs.Passes.{CameFrom, launched_mark}
@@ -22,8 +22,8 @@ pub held_is : (e : SignalRecord) (t : ℕ) → held_by e ≡ Some t → (e.kept 
 held_is e t = go e.kept refl
   where
     go : (v : Bool) → e.kept ≡ v → cond v (Some e.time) None ≡ Some t → (e.kept ≡ true) × (e.time ≡ t)
-    go true q f = (q, some_injective e.time t f)
-    go false q f = absurd (none_is_not_some t f)
+    go true q f = (q, same_Some e.time t f)
+    go false q f = absurd (none-some t f)
 
 -- the arcs taken so far, turned round, lead from the net to the end and carry the signal of the net's record there
 pub record Tracing (b : Block) (m : Meaning) (order : List ℕ) (signals : List SignalRecord) (end : ℕ) (y : Signal) (path : List ℕ) (n s count : ℕ) (e : SignalRecord) : Type 0 where

@@ -39,6 +39,10 @@ abbrev pub entry_of : Option ℤ → ℤ
 entry_of None = none_value
 entry_of (Some z) = z
 
+-- it stands for the figure, which is not what stands for none
+abbrev pub HasEntry : Option ℤ → Type 0
+HasEntry x = figure (entry_of x) ≡ x
+
 abbrev pub required_entry : List ℤ → ℕ → ℕ → Option ℤ
 required_entry required n s = figure (slice_index_or required (place n s) (pos 0))
 

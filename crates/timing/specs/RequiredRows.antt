@@ -53,11 +53,11 @@ pub record HeadsReady (arcs : List Arc) (n : ℕ) (required : List ℤ) : Type 0
   pub fits : (i : ℕ) → i < length arcs → tail_of arcs i ≡ n → RowFits required (head_of arcs i)
 
 -- at each step the row holds the harder of what it held and of what the arc requires
-abbrev pub RowOver : Meaning → Order → RequiredTable → Arc → List (Option ℤ) → List (Option ℤ) → Type 0
+abbrev pub RowOver : Meaning → Order → RequiredTable → Arc → List ℤ → List ℤ → Type 0
 RowOver m o required arc was is =
-    (s : ℕ) → s ≤ last_step → HarderOf o (slice_index_or was s None) (required_over m required arc s) (slice_index_or is s None)
+    (s : ℕ) → s ≤ last_step → HarderOf o (figure (slice_index_or was s (pos 0))) (required_over m required arc s) (figure (slice_index_or is s (pos 0)))
 
 -- at each step the row holds the hardest of the net's limit and of what its arcs require
-abbrev pub RequiredRow : Block → Meaning → Order → RequiredTable → ℕ → List (Option ℤ) → Type 0
+abbrev pub RequiredRow : Block → Meaning → Order → RequiredTable → ℕ → List ℤ → Type 0
 RequiredRow b m o required n row =
-    (s : ℕ) → s ≤ last_step → First (AsHard o) (RequiredByArcs b m o required n s) (slice_index_or row s None)
+    (s : ℕ) → s ≤ last_step → First (AsHard o) (RequiredByArcs b m o required n s) (figure (slice_index_or row s (pos 0)))

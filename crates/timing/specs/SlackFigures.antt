@@ -1,5 +1,5 @@
--- The slack of a record's signal against a required time, and the lesser of two slacks. Assumes nothing.
-use Rattle.std.specs.Prelude.{◌≡◌, ℕ, ◌<◌, cond, List, ℤ, pos, Some, None, Option, int_le}
+-- The slack of a record's signal against a required time, and the least of a net's. Assumes nothing.
+use Rattle.std.specs.Prelude.{◌≡◌, ℕ, ◌<◌, List, ℤ, pos, Some, None, Option}
 use Rattle.units.specs.Senses.{Order}
 use Rattle.units.specs.Steps.{step_count}
 use Rattle.paths.specs.Slacks.{Least}
@@ -11,12 +11,6 @@ abbrev pub slack_figure : Order → Option ℕ → Option ℤ → Option ℤ
 slack_figure o None required = None
 slack_figure o (Some t) None = None
 slack_figure o (Some t) (Some r) = Some (o.slack (pos t) r)
-
--- the lesser of two slacks, where there are any
-abbrev pub lesser_of : Option ℤ → Option ℤ → Option ℤ
-lesser_of None b = b
-lesser_of (Some x) None = Some x
-lesser_of (Some x) (Some y) = Some (cond (int_le x y) x y)
 
 -- the slack of the signal against the required time that the areas hold for a net and a step
 abbrev pub slack_of_entries : Order → List SignalRecord → List ℤ → ℕ → ℕ → Option ℤ

@@ -1,5 +1,6 @@
 // What a timing answers and writes into its areas.
-ghost use Rattle.std.specs.Prelude.{◌≡◌};
+ghost use Rattle.std.specs.Prelude.{◌≡◌, ◌+◌, ◌*◌, ◌≤◌, length, slice_range};
+ghost use Rattle.units.specs.Steps.{step_count};
 ghost use Rattle.timing.specs.Areas.{place, held_by};
 ghost use Rattle.timing.specs.Offers.{kept_record};
 
@@ -54,6 +55,14 @@ pub(crate) fn place(net: u16, step: u8) -> usize
     ensures { result ≡ place net step }
 {
     STEPS * usize::from(net) + usize::from(step)
+}
+
+// The part of an area of signals or of required times that is one net's.
+pub(crate) fn row<T>(area: &[T], net: usize) -> &[T]
+    requires { step_count * net + step_count ≤ length area.now }
+    ensures { result.now ≡ slice_range area.now (step_count * net) (step_count * net + step_count) }
+{
+    &area[STEPS * net..STEPS * net + STEPS]
 }
 
 // The worst slack, or NONE; the start net and the number of arcs of a path that has it; the carried count.

@@ -1,8 +1,8 @@
 // The backward pass: the required times of every net and step, from the limits back along the arcs.
-ghost use Rattle.std.specs.Prelude.{◌≡◌, ◌+◌, ◌*◌, ◌<◌, ◌≤◌, map, length};
+ghost use Rattle.std.specs.Prelude.{◌≡◌, ◌+◌, ◌*◌, ◌<◌, ◌≤◌, length};
 ghost use Rattle.paths.specs.Blocks.{largest_limit, block, limit_of};
 ghost use Rattle.units.specs.Steps.{step_count};
-ghost use Rattle.timing.specs.Areas.{entry_of, required_entry};
+ghost use Rattle.timing.specs.Areas.{HasEntry, required_entry};
 ghost use Rattle.timing.specs.Passes.{Backward};
 ghost use Rattle.timing.specs.RequiredRows.{limit_figure, HarderOf, required_over, EntryFits, RowFits, HeadsReady, RowOver, RequiredRow};
 
@@ -53,13 +53,13 @@ fn require_over<M: DelayModel, S: Sense>(
     model: &M,
     arc: Arc,
     required: &[i32],
-    row: &mut [Option<i32>; STEPS],
+    row: &mut [i32; STEPS],
 )
     requires { step_count * arc.head + step_count ≤ length required.now }
 {
-    for (step, time) in row.iter_mut().enumerate() {
+    for (step, entry) in row.iter_mut().enumerate() {
         let over = required_over(model, arc, step as u8, required);
-        *time = harder_of::<S>(*time, over);
+        *entry = entry_of(harder_of::<S>(figure(*entry), over));
     }
 }
 
@@ -69,11 +69,12 @@ fn required_row<M: DelayModel, S: Sense>(
     circuit: &Circuit<'_>,
     net: u16,
     required: &[i32],
-) -> [Option<i32>; STEPS]
+) -> [i32; STEPS]
     requires net { net < length circuit.now.nets.now }
     requires room { step_count * length circuit.now.nets.now ≤ length required.now }
 {
-    let mut row = [limit_of::<S>(circuit.nets[usize::from(net)]); STEPS];
+    let limit = limit_of::<S>(circuit.nets[usize::from(net)]);
+    let mut row = [entry_of(limit); STEPS];
     for &number in circuit.fan_out.arcs_out(net) {
         let arc = circuit.arcs[usize::from(number)];
         require_over::<M, S>(model, arc, required, &mut row);
@@ -82,13 +83,11 @@ fn required_row<M: DelayModel, S: Sense>(
 }
 
 // Fills the part of the area that is one net's.
-fn fill_row(part: &mut [i32], row: &[Option<i32>; STEPS])
+fn fill_row(part: &mut [i32], row: &[i32; STEPS])
     requires { length part.old ≡ step_count }
-    ensures { part.new ≡ map entry_of row.now }
+    ensures { part.new ≡ row.now }
 {
-    for (step, entry) in part.iter_mut().enumerate() {
-        *entry = entry_of(row[step]);
-    }
+    part.copy_from_slice(row);
 }
 
 // Fills the required times of every net, against the topological order.

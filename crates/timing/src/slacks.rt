@@ -1,5 +1,5 @@
 // The slack of every net, and the worst of them.
-ghost use Rattle.std.specs.Prelude.{◌≡◌, ℕ, ◌+◌, ◌*◌, ◌<◌, ◌≤◌, length, ℤ, Some, slice_range};
+ghost use Rattle.std.specs.Prelude.{◌≡◌, ℕ, ◌+◌, ◌*◌, ◌<◌, ◌≤◌, length, ℤ, Some};
 ghost use Rattle.paths.specs.Blocks.{max_nets};
 ghost use Rattle.paths.specs.Ranges.{latest_time, RequiredFits};
 ghost use Rattle.timing.specs.Areas.{record_at, held_by, figure, required_entry};
@@ -7,24 +7,15 @@ ghost use Rattle.timing.specs.Passes.{SlacksFilled, LeastEntry};
 ghost use Rattle.timing.specs.SlackFigures.{slack_figure, LeastOfRow};
 ghost use Rattle.units.specs.Steps.{step_count, last_step};
 
-use crate::answers::SignalRecord;
+use crate::answers::{SignalRecord, row};
 use crate::entries::{entry_of, figure};
 use units::senses::Sense;
-use units::steps::STEPS;
 
 // The slack of a signal against a required time; none if either is missing.
 pub fn slack_of<S: Sense>(signal: SignalRecord, required: Option<i32>) -> Option<i64>
     ensures { result ≡ slack_figure S.Sense.order (held_by signal) required }
 {
     Some(S::slack(signal.kept_time()?, required?))
-}
-
-// The part of an area that is one net's.
-pub fn row<T>(area: &[T], net: usize) -> &[T]
-    requires { step_count * net + step_count ≤ length area.now }
-    ensures { result.now ≡ slice_range area.now (step_count * net) (step_count * net + step_count) }
-{
-    &area[STEPS * net..STEPS * net + STEPS]
 }
 
 // The least slack of the signals that a net keeps.

@@ -6,10 +6,10 @@ ghost use Rattle.timing.specs.Areas.{ArcsPast};
 ghost use Rattle.timing.specs.Passes.{launched_mark};
 ghost use Rattle.timing.specs.WorstPaths.{EndAt, EndStep, SomeTraceable, TracedRun};
 
-use crate::answers::{NO_SIGNAL, SignalRecord, place};
+use crate::answers::{NO_SIGNAL, SignalRecord, place, row};
 use crate::circuit::Circuit;
 use crate::required::limit_of;
-use crate::slacks::{row, slack_of};
+use crate::slacks::slack_of;
 use paths::blocks::MAX_PATH;
 use units::senses::Sense;
 
