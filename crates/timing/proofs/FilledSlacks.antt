@@ -13,7 +13,7 @@ use Rattle.paths.specs.Ranges.{latest_time, RequiredFits}
 use Rattle.paths.proofs.Firsts.{first_is}
 use Rattle.std.proofs.lemmas.Option.{none-some, same_Some}
 use Rattle.timing.specs.declared.answers.SignalRecord.{SignalRecord}
-use Rattle.timing.specs.Areas.{place, record_at, held_by, inside, held_in_area, figure, required_entry, required_in_area, slack_entry, entry_of}
+use Rattle.timing.specs.Areas.{record_at, held_by, inside, held_in_area, figure, required_entry, required_in_area, slack_entry, entry_of}
 use Rattle.timing.specs.Passes.{SlacksFilled}
 use Rattle.timing.specs.SlackFigures.{slack_figure, slack_of_entries, LeastOfRow}
 use Rattle.timing.proofs.Figures.{figure_some}
