@@ -44,8 +44,8 @@ pub fn fill_slacks<S: Sense>(
     requires slacks { nets ≤ length slacks.old }
 {
     for (net, slack) in slacks[..nets].iter_mut().enumerate() {
-        // Times and required times are so small that a slack always fits.
         let least = net_slack::<S>(signals, required, net);
+        // Times and required times are so small that a slack always fits.
         *slack = entry_of(least.and_then(|slack| i32::try_from(slack).ok()));
     }
 }
