@@ -4,7 +4,8 @@ ghost use Rattle.report.specs.Lines.{fault_line, slack_text, arcs_text, sense_li
 
 use crate::areas::Timed;
 use std::fmt;
-use timing::answers::{Answer, NONE};
+use timing::answers::Answer;
+use timing::entries::figure;
 use units::refusals::Refusal;
 
 // The one line of a file that is refused.
@@ -31,9 +32,9 @@ impl fmt::Display for Slack {
     ghost output = { λ slack. Some (slack_text slack.0) };
 
     fn fmt<W: fmt::Write>(&self, f: &mut fmt::Formatter<W>) -> fmt::Result {
-        match self.0 {
-            NONE => write!(f, "-"),
-            slack => write!(f, "{slack}"),
+        match figure(self.0) {
+            Some(slack) => write!(f, "{slack}"),
+            None => write!(f, "-"),
         }
     }
 }
@@ -70,11 +71,11 @@ impl fmt::Display for SenseLine<'_> {
             arcs,
             ..
         } = self.timed.answer;
-        if worst_slack == NONE {
+        let Some(slack) = figure(worst_slack) else {
             return writeln!(f, "{sense} none");
-        }
+        };
         let path = Arcs(&self.timed.path);
-        writeln!(f, "{sense} {worst_slack} {arcs}{path}")
+        writeln!(f, "{sense} {slack} {arcs}{path}")
     }
 }
 

@@ -5,14 +5,14 @@ ghost use Rattle.timing.specs.Areas.{figure, entry_of};
 use crate::answers::NONE;
 
 // The figure that a number of an area stands for.
-pub(crate) fn figure(entry: i32) -> Option<i32>
+pub fn figure(entry: i32) -> Option<i32>
     ensures { result ≡ figure entry }
 {
     (entry != NONE).then_some(entry)
 }
 
 // The number of an area that stands for a figure.
-pub(crate) fn entry_of(figure: Option<i32>) -> i32
+pub fn entry_of(figure: Option<i32>) -> i32
     ensures { result ≡ entry_of figure }
 {
     figure.unwrap_or(NONE)

@@ -3,7 +3,7 @@
 
 pub mod answers;
 pub mod circuit;
-mod entries;
+pub mod entries;
 pub mod faults;
 mod forward;
 mod required;
