@@ -123,6 +123,7 @@ impl<'a> Iterator for Records<'a> {
                 self.at = next;
                 Some(Ok((offset, record)))
             }
+            // An iterator hands a refusal out as an item, its last.
             Err(fault) => {
                 self.at = self.file.len();
                 let cause = fault.into();

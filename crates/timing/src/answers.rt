@@ -6,6 +6,8 @@ ghost use Rattle.timing.specs.Offers.{kept_record};
 
 use units::steps::STEPS;
 
+// The areas have a fixed layout that callers read: a number for none, a flag for a kept signal, a mark for a launch.
+
 // No figure, in the areas of required times and slacks and as worst slack.
 pub const NONE: i32 = -2147483648;
 
@@ -49,6 +51,8 @@ impl SignalRecord {
         self.kept.then_some(self.time)
     }
 }
+
+// The areas are lent as slices, so each function asks for the room that it reads or writes.
 
 // The place of a net and a step in the areas of signals and of required times.
 pub(crate) fn place(net: u16, step: u8) -> usize

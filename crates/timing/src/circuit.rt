@@ -7,6 +7,7 @@ ghost use Rattle.network.specs.FanOuts.{ArcsWithin};
 use network::fan_out::FanOut;
 use paths::blocks::{Arc, Net};
 
+// Nets and arcs are lent apart, so that arcs of other kinds can stand in for a block's own.
 #[derive(Clone, Copy)]
 pub struct Circuit<'a> {
     pub nets: &'a [Net],

@@ -33,7 +33,7 @@ impl SignalRecord {
     }
 }
 
-// The step of a turn, when the steps are gone through from the worst on.
+// The step of a turn, when the steps are gone through from the worst on: a range and its reverse are two types.
 fn step_of_turn<S: Sense>(turn: u8) -> u8
     requires { turn < step_count }
     ensures turn { turn_of S.Sense.order result ≡ turn }

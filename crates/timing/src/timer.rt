@@ -77,7 +77,7 @@ fn fill_figures<M: DelayModel, S: Sense>(
     carried
 }
 
-// Times a block in one sense, into four areas.
+// Times a block in one sense, into four areas, each lent by itself as a caller has it.
 pub fn time<M: DelayModel, S: Sense>(
     model: &M,
     circuit: &Circuit<'_>,

@@ -12,6 +12,7 @@ pub enum Layer {
 #[derive(Clone, Copy, PartialEq, Eq, Debug)]
 pub struct Refusal {
     pub layer: Layer,
+    // the row of the table, which the report prints
     pub number: u8,
     pub place: usize,
 }
