@@ -1,5 +1,5 @@
 -- The path that is answered: there is an end with the worst slack, the path to it can be traced, and it has that slack. Assumes nothing.
-use Rattle.std.proofs.Common.{◌≡◌, ℕ, ◌*◌, ◌≤◌, true, List, length, take, ℤ, pos, ◌≤ℤ◌, Some, None, Option, sym, refl, ap, ◌∙◌, subst, arith}
+use Rattle.std.proofs.Common.{◌≡◌, ℕ, ◌*◌, ◌≤◌, true, List, length, take, ℤ, pos, ◌≤ℤ◌, Some, sym, refl, ap, ◌∙◌, subst, arith}
 use Rattle.std.proofs.lemmas.Int.{ints}
 use Rattle.units.specs.Senses.{Order}
 use Rattle.units.specs.Steps.{step_count}
@@ -11,7 +11,6 @@ use Rattle.paths.specs.Orders.{TopologicalOrder}
 use Rattle.paths.specs.Signals.{Signal, signal, along, Covers}
 use Rattle.paths.specs.Slacks.{limit_at, WorstSlack}
 use Rattle.paths.specs.ArcByArc.{Timeable}
-use Rattle.std.proofs.lemmas.Option.{none-some, same_Some}
 use Rattle.paths.proofs.Covering.{covers_prunes}
 use Rattle.paths.proofs.Pruning.{arrives_covered, held_arrives}
 use Rattle.timing.specs.declared.answers.Answer.{Answer}
@@ -22,7 +21,8 @@ use Rattle.timing.specs.Timed.{PathAnswered}
 use Rattle.timing.specs.RequiredRows.{as_figure, limit_figure}
 use Rattle.timing.specs.WorstPaths.{EndAt, Traceable, ArrivesBy, TracedRun}
 use Rattle.timing.proofs.Figures.{limit_is}
-use Rattle.timing.proofs.FilledSlacks.{slack_of_both, both_have_slack, in_table, table_inside}
+use Rattle.timing.proofs.AreaParts.{in_table, table_inside}
+use Rattle.timing.proofs.FilledSlacks.{slack_of_both, both_have_slack}
 use Rattle.timing.proofs.TracedPaths.{held_is}
 
 -- an end keeps a signal, its net has a limit, and they have the slack

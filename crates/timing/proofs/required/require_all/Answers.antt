@@ -1,27 +1,25 @@
-use Rattle.std.proofs.Common.{arith, rules}
+use Rattle.std.proofs.Common.{◌≡◌, ◌<◌, reverse, length, get_or, arith, rules}
 use Rattle.std.proofs.lemmas.List.{length_push, length-reverse}
 use Rattle.std.proofs.lemmas.Iterator.Adapters.{YieldsList-from_rev_slice}
 use Rattle.std.proofs.lemmas.Iterator.Consumers.{YieldsList-turn, YieldsList-end}
-use Rattle.timing.proofs.BackwardPass.{required_none, turn_within, heads_ready, required_turn, backward}
+use Rattle.timing.proofs.BackwardPass.{heads_ready, required_turn, backward}
+use Rattle.timing.proofs.required.require_all.Given.{Over}
 use Rattle.timing.proofs.required.require_all.Goals as goal
+use Rattle.timing.proofs.required.require_all.Goals.{In-Some}
 
-pub loop-net-init : goal.loop-net-init
-loop-net-init g c = required_none c.args.circuit.now (g.M.DelayModel.meaning c.args.model.now) (g.met.M.DelayModel.lawful c.args.model.now) g.S.Sense.order c.args.required.now
+-- the net of this turn, in the order turned round
+turn : (g : Over) (c : In-Some g) → (length c.loop-net.yielded < length (reverse c.args.circuit.now.order.now)) × (c.in-Some.field-0.now ≡ get_or (reverse c.args.circuit.now.order.now) (length c.loop-net.yielded) c.in-Some.field-0.now)
+turn g c = YieldsList-turn (YieldsList-from_rev_slice c.args.circuit.now.order.now (search rules)) c.loop-net.yielded _ c.loop-net.yielded_by _ _ c.in-Some.field-0 c.in-Some.is c.next.ensures.steps
 
-pub required_row-row-requires : goal.required_row-row-requires
-required_row-row-requires g c =
-    let law = g.met.M.DelayModel.lawful c.args.model.now in
-    let (lt, is) = YieldsList-turn (YieldsList-from_rev_slice c.args.circuit.now.order.now (search rules)) c.loop-net.yielded _ c.loop-net.yielded_by _ _ c.in-Some.field-0 c.in-Some.is c.next.ensures.steps in
-    record {
-      net = turn_within c.args.circuit.now _ law _ _ _ _ _ lt is c.loop-net.invariant;
-      ready = heads_ready c.args.circuit.now _ law _ _ _ _ _ lt is c.loop-net.invariant (omega (arith, c.requires, c.loop-net.auto.required));
-    }
+pub required_row-row-requires-clause-ready : goal.required_row-row-requires-clause-ready
+required_row-row-requires-clause-ready g c =
+    let (lt, is) = turn g (goal.at.required_row-row-requires-clause-ready g c).In-Some in
+    heads_ready c.args.circuit.now _ (g.met.M.DelayModel.lawful c.args.model.now) _ _ _ _ _ lt is c.loop-net.invariant (omega (arith, c.requires, c.loop-net.auto.required))
 
 pub loop-net-preserved : goal.loop-net-preserved
 loop-net-preserved g c =
-    let law = g.met.M.DelayModel.lawful c.args.model.now in
-    let (lt, is) = YieldsList-turn (YieldsList-from_rev_slice c.args.circuit.now.order.now (search rules)) c.loop-net.yielded _ c.loop-net.yielded_by _ _ c.in-Some.field-0 c.in-Some.is c.next.ensures.steps in
-    rw c.from-at.ensures (required_turn c.args.circuit.now _ law _ _ _ _ _ lt is c.loop-net.invariant _ _ c.required_row-row.result c.fill_row.new.part (omega (arith, c.requires, c.loop-net.auto.required)) (omega arith) (length_push c.loop-net.yielded c.in-Some.field-0) (search rules) c.fill_row.ensures c.required_row-row.ensures)
+    let (lt, is) = turn g (goal.at.loop-net-preserved g c).In-Some in
+    rw c.from-at.ensures (required_turn c.args.circuit.now _ (g.met.M.DelayModel.lawful c.args.model.now) _ _ _ _ _ lt is c.loop-net.invariant _ _ c.required_row-row.result c.fill_row.new.part (omega (arith, c.requires, c.loop-net.auto.required)) (omega arith) (length_push c.loop-net.yielded c.in-Some.field-0) (search rules) c.fill_row.ensures c.required_row-row.ensures)
 
 pub returns : goal.returns
 returns g c =

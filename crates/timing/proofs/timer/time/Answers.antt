@@ -24,28 +24,21 @@ filled g c = record {
 worst_is : (g : Over) (c : In-Some g) → to_z w32 (of_z w32 c.in-Some.worst) ≡ c.in-Some.worst
 worst_is g c = let fits : SFits w32 c.in-Some.worst = search rules in to_z-of_z w32 c.in-Some.worst fits
 
-pub end_of-end-requires : goal.end_of-end-requires
-end_of-end-requires g c =
-    let at = goal.at.end_of-end-requires g c in
-    record {
-      room = omega (arith, c.in_ok-test_areas.ensures.1.first, c.fill_figures-carried.auto.signals);
-      there = rw (worst_is g at.In-Some) (has_end (filled g at.After-worst_slack-worst) c.in-Some.worst c.in-Some.is);
-    }
+pub end_of-end-requires-clause-there : goal.end_of-end-requires-clause-there
+end_of-end-requires-clause-there g c =
+    let at = goal.at.end_of-end-requires-clause-there g c in
+    rw (worst_is g at.In-Some) (has_end (filled g at.After-worst_slack-worst) c.in-Some.worst c.in-Some.is)
 
-pub trace-requires : goal.trace-requires
-trace-requires g c =
-    let at = goal.at.trace-requires g c in
-    let circuit = c.args.circuit.now in
-    record {
-      room = c.in_ok-test_areas.ensures.1.fourth;
-      traceable = (
-        circuit.nets.now,
-        g.M.DelayModel.meaning c.args.model.now,
-        g.S.Sense.order,
-        circuit.order.now,
-        traceable (filled g at.After-worst_slack-worst) c.in-Some.worst c.in-Some.is (omega (arith, c.in_ok-test_areas.ensures.1.first, c.fill_figures-carried.auto.signals)) c.end_of-end.result.0 c.end_of-end.result.1 (rw (worst_is g at.In-Some) at c.end_of-end.ensures),
-      );
-    }
+pub trace-requires-clause-traceable : goal.trace-requires-clause-traceable
+trace-requires-clause-traceable g c =
+    let at = goal.at.trace-requires-clause-traceable g c in
+    let circuit = c.args.circuit.now in (
+      circuit.nets.now,
+      g.M.DelayModel.meaning c.args.model.now,
+      g.S.Sense.order,
+      circuit.order.now,
+      traceable (filled g at.After-worst_slack-worst) c.in-Some.worst c.in-Some.is (omega (arith, c.in_ok-test_areas.ensures.1.first, c.fill_figures-carried.auto.signals)) c.end_of-end.result.0 c.end_of-end.result.1 (rw (worst_is g at.In-Some) at c.end_of-end.ensures),
+    )
 
 pub returns : goal.returns
 returns g c =

@@ -1,4 +1,4 @@
-use Rattle.std.proofs.Common.{◌<◌, ◌≤◌, length, ◌∙◌, arith, rules}
+use Rattle.std.proofs.Common.{◌<◌, length, ◌∙◌, arith, rules}
 use Rattle.paths.specs.Blocks.{max_path, tail_of}
 use Rattle.timing.specs.Areas.{place}
 use Rattle.timing.proofs.TracedPaths.{each_few, each_room, each_on, each_ends, past_on}
@@ -37,10 +37,8 @@ loop-arc-preserved c =
     let within : count < length path = omega (arith, (room (goal.at.loop-arc-preserved c).In-Some).0, c.requires.room) in
     rw (c.place-in-Some.ensures, c.from.ensures, c.from-in-Some.ensures, arc.0) (past_on c.args.path.now path count _ c.loop-arc.invariant.0, each_on _ _ _ _ path _ count c.loop-arc.signal within (λ q. arc.1 (arc.0 ∙ q)) c.loop-arc.invariant.1)
 
-pub returns : goal.returns
-returns c =
-    record {
-      count = each_few _ _ _ _ _ _ _ _ c.requires.traceable c.loop-arc.invariant.1;
-      run = each_ends _ _ _ _ _ _ _ _ c.args.circuit.now.few.1 c.in_default.ensures c.loop-arc.invariant.1;
-      past = c.loop-arc.invariant.0;
-    }
+pub returns-clause-count : goal.returns-clause-count
+returns-clause-count c = each_few _ _ _ _ _ _ _ _ c.requires.traceable c.loop-arc.invariant.1
+
+pub returns-clause-run : goal.returns-clause-run
+returns-clause-run c = each_ends _ _ _ _ _ _ _ _ c.args.circuit.now.few.1 c.in_default.ensures c.loop-arc.invariant.1
