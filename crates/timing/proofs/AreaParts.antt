@@ -1,11 +1,13 @@
--- The parts of an area: its first entries, and the row of a net. Assumes nothing.
-use Rattle.std.proofs.Common.{◌≡◌, ℕ, ◌+◌, ◌-◌, ◌*◌, ◌<◌, ◌≤◌, List, length, get_or, drop, ap, ◌∙◌, arith}
+-- The parts of an area: its first entries, the row of a net, and its table. Assumes nothing.
+use Rattle.std.proofs.Common.{◌≡◌, ℕ, ◌+◌, ◌-◌, ◌*◌, ◌<◌, ◌≤◌, Bool, true, false, cond, ltb, List, length, get_or, drop, Some, None, Option, refl, ap, ◌∙◌, arith}
+use Rattle.std.proofs.lemmas.Bool.{lt-ltb, ltb-true}
+use Rattle.std.proofs.lemmas.Option.{none-some}
 use Rattle.std.specs.List.{slice_range, zip}
 use Rattle.std.proofs.lemmas.List.{length-take-le, length-drop}
 use Rattle.std.proofs.lemmas.List.Edits.{get_or-between}
 use Rattle.std.proofs.lemmas.Slice.Zip.{length-zip, get_or-zip}
 use Rattle.units.specs.Steps.{step_count}
-use Rattle.timing.specs.Areas.{place}
+use Rattle.timing.specs.Areas.{place, inside}
 
 pub front_at : {X : Type 0} (xs : List X) (k i : ℕ) (d : X) → i < k → get_or (slice_range xs 0 k) i d ≡ get_or xs i d
 front_at xs k i d h = get_or-between xs 0 k i d (omega arith) ∙ ap (λ (j : ℕ). get_or xs j d) (omega arith)
@@ -30,3 +32,16 @@ module _ {X Y : Type 0} (xs : List X) (ys : List Y) (n : ℕ) (fit : step_count 
       get_or-zip (row_of xs n) (row_of ys n) s (d, e) (omega (arith, row_long xs n fit)) (omega (arith, row_long ys n fits))
       ∙ ap (λ (v : X). (v, get_or (row_of ys n) s e)) (row_at xs n s d h)
       ∙ ap (λ (v : Y). (get_or xs (place n s) d, v)) (row_at ys n s e h)
+
+-- a table of an area holds what stands at a net and step of the block
+pub in_table : {A : Type 0} (nets n s : ℕ) (x : Option A) → n < nets → s < step_count → cond (inside nets n s) x None ≡ x
+in_table nets n s x h k = ap (λ v. cond (cond v (ltb s step_count) false) x None) (lt-ltb n nets h) ∙ ap (λ v. cond v x None) (lt-ltb s step_count k)
+
+-- and nothing else
+pub table_inside : {A : Type 0} (nets n s : ℕ) (x : Option A) (a : A) → cond (inside nets n s) x None ≡ Some a → (n < nets) × (s < step_count)
+table_inside nets n s x a = go (ltb n nets) refl (ltb s step_count) refl
+  where
+    go : (p : Bool) → ltb n nets ≡ p → (q : Bool) → ltb s step_count ≡ q → cond (cond p q false) x None ≡ Some a → (n < nets) × (s < step_count)
+    go true ep true eq e = (ltb-true n nets ep, ltb-true s step_count eq)
+    go true ep false eq e = absurd (none-some a e)
+    go false ep q eq e = absurd (none-some a e)

@@ -1,10 +1,10 @@
 -- Required times net by net, against the topological order. Assumes nothing.
-use Rattle.std.proofs.Common.{◌≡◌, ℕ, suc, ◌+◌, ◌-◌, ◌*◌, ◌<◌, ◌≤◌, Bool, true, false, cond, ltb, ◌⊎◌, List, reverse, length, get_or, ℤ, pos, ◌-ℤ◌, neg_ℤ, ◌≤ℤ◌, Some, None, Option, sym, refl, ap, ◌∙◌, subst, inl, inr, arith}
+use Rattle.std.proofs.Common.{◌≡◌, ℕ, suc, ◌+◌, ◌-◌, ◌*◌, ◌<◌, ◌≤◌, Bool, true, false, cond, ltb, ◌⊎◌, List, reverse, length, get_or, ℤ, pos, ◌-ℤ◌, neg_ℤ, ◌≤ℤ◌, Some, None, Option, sym, ap, ◌∙◌, subst, inl, inr, arith}
 use native.Mathlib.Decide.{ℕ_discrete}
 use borrow.Rule.Slice.PartMut.{put_mid}
 use Rattle.std.proofs.lemmas.List.{get_or_past, get_or_read, get_or-reverse, length-reverse}
 use Rattle.std.proofs.lemmas.Int.{ints}
-use Rattle.std.proofs.lemmas.Bool.{cases_lt, lt-ltb, le-ltb}
+use Rattle.std.proofs.lemmas.Bool.{cases_lt, le-ltb}
 use Rattle.units.specs.Senses.{Order}
 use Rattle.units.specs.Steps.{step_count, last_step}
 use Rattle.models.specs.Meaning.{Meaning, Lawful, max_delay}
@@ -20,6 +20,7 @@ use Rattle.paths.proofs.Places.{at_place}
 use Rattle.timing.specs.Areas.{figure, required_entry, required_in_area, FiguresPast}
 use Rattle.timing.specs.Passes.{Backward}
 use Rattle.timing.specs.RequiredRows.{AsHard, HeadsReady, RequiredRow}
+use Rattle.timing.proofs.AreaParts.{in_table}
 use Rattle.timing.proofs.Circuits.{OrderedCircuit, circuit_order}
 use Rattle.timing.proofs.HarderTimes.{first_same}
 use Rattle.timing.proofs.RowWrites.{RowWritten, row_written}
@@ -64,10 +65,7 @@ pub record RequiredFrom (b : Block) (m : Meaning) (o : Order) (order : List ℕ)
 
 -- inside the block the table of the area is its entries
 in_area : (nets : ℕ) (required : List ℤ) (n s : ℕ) → n < nets → s ≤ last_step → required_in_area nets required n s ≡ required_entry required n s
-in_area nets required n s h fits =
-    let within : s < step_count = omega arith in
-    ap (λ (v : Bool). cond (cond v (ltb s step_count) false) (required_entry required n s) None) (lt-ltb n nets h)
-    ∙ ap (λ (v : Bool). cond v (required_entry required n s) None) (lt-ltb s step_count within)
+in_area nets required n s h fits = in_table nets n s (required_entry required n s) h (omega arith)
 
 outside : (nets : ℕ) (required : List ℤ) (n s : ℕ) → nets ≤ n → required_in_area nets required n s ≡ None
 outside nets required n s h = ap (λ (v : Bool). cond (cond v (ltb s step_count) false) (required_entry required n s) None) (le-ltb n nets h)
@@ -186,17 +184,6 @@ module _ (circuit : OrderedCircuit) (m : Meaning) (law : Lawful m) (o : Order) w
         past = λ i h. (let within = net_within in written.past i (omega arith)) ∙ done.past i h;
       }
 
-  -- before the loop no net has its row
-  pub required_none : (required : List ℤ) → RequiredFrom b m o order (length order - 0) required required
-  required_none required = record {
-    rows = λ n s within from-here fits. absurd (placed n within from-here);
-    range = λ n s r within from-here fits e. absurd (placed n within from-here);
-    past = λ i h. refl;
-  }
-    where
-      placed : (n : ℕ) → n < nets → ¬ (length order - 0 ≤ place_of order n)
-      placed n within h = let lt = ordered.whole n within in omega arith
-
   -- a turn of the loop, when `count` nets from the order's end on have their rows
   module _ (count n : ℕ) (was mid : List ℤ) (lt : count < length (reverse order)) (is : n ≡ get_or (reverse order) count n) (done : RequiredFrom b m o order (length order - count) was mid) where
     abbrev p : ℕ
@@ -213,9 +200,6 @@ module _ (circuit : OrderedCircuit) (m : Meaning) (law : Lawful m) (o : Order) w
 
     done_here : RequiredFrom b m o order (suc p) was mid
     done_here = subst (λ (k : ℕ). RequiredFrom b m o order k was mid) back done
-
-    pub turn_within : n < nets
-    turn_within = subst (λ (k : ℕ). k < nets) turned (net_within p was mid placed done_here)
 
     pub heads_ready : step_count * nets ≤ length mid → HeadsReady b.arcs n mid
     heads_ready room = subst (λ (k : ℕ). HeadsReady b.arcs k mid) turned (heads_ready_at p was mid placed done_here room)

@@ -8,14 +8,7 @@ use Rattle.std.proofs.lemmas.Option.{none-some, same_Some}
 use Rattle.timing.specs.RequiredRows.{as_figure}
 use Rattle.timing.specs.Areas.{none_value, figure, HasEntry}
 
--- an entry of 32 bits that does not stand for none stands for itself
-pub figure_some : (z : ℤ) → SFits w32 z → (z ≡ none_value → ⊥) → figure z ≡ Some z
-figure_some z fits ne = go (le_z z none_value) refl
-  where
-    go : (v : Bool) → le_z z none_value ≡ v → cond v None (Some z) ≡ Some z
-    go false e = refl
-    go true e = absurd (ne (grind (arith, ints)))
-
+-- a number above what stands for none stands for itself
 pub figure_above : (z : ℤ) → none_value <ℤ z → figure z ≡ Some z
 figure_above z above = go (le_z z none_value) refl
   where
@@ -41,7 +34,7 @@ pub limit_is : (limit : Option ℕ) (r : ℤ) → as_figure limit ≡ Some r →
 limit_is None r e = absurd (none-some r e)
 limit_is (Some t) r e = (t, refl, sym (same_Some (pos t) r e))
 
--- less a delay a required time fits its type, also by its bits, and does not stand for none
+-- less a delay a required time fits its bits, and does not stand for none
 pub less_delay_fits : (r : ℤ) (delay : ℕ) → RequiredFits r → delay ≤ max_delay → SFits w32 (to_z w32 (of_z w32 r) -ℤ to_z w32 delay)
 less_delay_fits r delay (low, high) short = omega (arith, ints)
 

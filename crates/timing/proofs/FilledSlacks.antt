@@ -1,10 +1,9 @@
 -- The slacks that are filled in net by net. Assumes nothing.
-use Rattle.std.proofs.Common.{◌≡◌, ℕ, ◌+◌, ◌-◌, ◌<◌, ◌≤◌, ◌⊎◌, Bool, true, false, cond, ltb, List, ◌++◌, length, get_or, drop, set, ℤ, pos, ◌≤ℤ◌, Some, None, Option, sym, refl, ap, ◌∙◌, subst, arith, w32, w64, to_z, of_z}
+use Rattle.std.proofs.Common.{◌≡◌, ℕ, ◌+◌, ◌<◌, ◌≤◌, ◌⊎◌, List, length, set, ℤ, pos, ◌≤ℤ◌, Some, None, Option, sym, refl, ap, ◌∙◌, subst, arith, w32, w64, to_z, of_z}
 use native.Mathlib.Decide.{ℕ_discrete}
 use Rattle.std.specs.Option.{MatchOption, IsSomeAnd}
 use Rattle.std.proofs.lemmas.Int.{to_z-of_z}
-use Rattle.std.proofs.lemmas.List.{get_or-set_same, get_or-set_other, get_or_append_left, get_or-append_right, get_or-drop}
-use Rattle.std.proofs.lemmas.Bool.{lt-ltb, ltb-true}
+use Rattle.std.proofs.lemmas.List.{get_or-set_same, get_or-set_other}
 use Rattle.units.specs.Senses.{Order, late_order, early_order}
 use Rattle.units.specs.Steps.{step_count, last_step}
 use Rattle.paths.specs.Slacks.{Least}
@@ -13,12 +12,12 @@ use Rattle.paths.specs.Ranges.{latest_time, RequiredFits}
 use Rattle.paths.proofs.Firsts.{first_is}
 use Rattle.std.proofs.lemmas.Option.{none-some, same_Some}
 use Rattle.timing.specs.declared.answers.SignalRecord.{SignalRecord}
-use Rattle.timing.specs.Areas.{record_at, held_by, inside, held_in_area, figure, required_entry, required_in_area, slack_entry, entry_of}
-use Rattle.timing.specs.Passes.{SlacksFilled}
+use Rattle.timing.specs.Areas.{record_at, held_by, held_in_area, figure, required_entry, required_in_area, slack_entry, entry_of}
 use Rattle.timing.specs.SlackFigures.{slack_figure, slack_of_entries, LeastOfRow}
-use Rattle.timing.proofs.Figures.{figure_some}
+use Rattle.timing.proofs.AreaParts.{in_table, table_inside}
+use Rattle.timing.proofs.Figures.{figure_above}
 use Rattle.timing.proofs.LeastFigures.{least_same}
-use Rattle.timing.proofs.SlackRanges.{WithinWidest, slack_within, within_fits, within_fits_wide, within_other}
+use Rattle.timing.proofs.SlackRanges.{WithinWidest, slack_within, within_fits, within_fits_wide, within_above}
 use Rattle.timing.proofs.TracedPaths.{held_is}
 
 -- a slack is that of a time and a required time
@@ -29,19 +28,6 @@ slack_of_both o (Some t) (Some r) z e = (t, r, refl, refl, sym (same_Some (o.sla
 
 pub both_have_slack : (o : Order) (held : Option ℕ) (required : Option ℤ) (z : ℤ) (t : ℕ) (r : ℤ) → held ≡ Some t → required ≡ Some r → z ≡ o.slack (pos t) r → slack_figure o held required ≡ Some z
 both_have_slack o held required z t r et er ez = ap (λ (x : Option ℕ). slack_figure o x required) et ∙ ap (λ (x : Option ℤ). slack_figure o (Some t) x) er ∙ ap Some (sym ez)
-
--- a table of an area holds what stands at a net and step of the block
-pub in_table : {A : Type 0} (nets n s : ℕ) (x : Option A) → n < nets → s < step_count → cond (inside nets n s) x None ≡ x
-in_table nets n s x h k = ap (λ v. cond (cond v (ltb s step_count) false) x None) (lt-ltb n nets h) ∙ ap (λ v. cond v x None) (lt-ltb s step_count k)
-
--- and nothing else
-pub table_inside : {A : Type 0} (nets n s : ℕ) (x : Option A) (a : A) → cond (inside nets n s) x None ≡ Some a → (n < nets) × (s < step_count)
-table_inside nets n s x a = go (ltb n nets) refl (ltb s step_count) refl
-  where
-    go : (p : Bool) → ltb n nets ≡ p → (q : Bool) → ltb s step_count ≡ q → cond (cond p q false) x None ≡ Some a → (n < nets) × (s < step_count)
-    go true ep true eq e = (ltb-true n nets ep, ltb-true s step_count eq)
-    go true ep false eq e = absurd (none-some a e)
-    go false ep q eq e = absurd (none-some a e)
 
 -- the least slack of a net lies within the range of slacks
 pub least_within : (o : Order) → (o ≡ late_order) ⊎ (o ≡ early_order) → (signals : List SignalRecord) (required : List ℤ) (n : ℕ) → ((s : ℕ) → s ≤ last_step → (record_at signals n s).time ≤ latest_time) → ((s : ℕ) (r : ℤ) → s ≤ last_step → required_entry required n s ≡ Some r → RequiredFits r) → (x : Option ℤ) → LeastOfRow o signals required n x → (z : ℤ) → x ≡ Some z → WithinWidest z
@@ -59,7 +45,7 @@ slack_entered (Some z) None r within cast e = absurd cast
 slack_entered (Some z) (Some v) r within cast e =
     let range = within z refl in
     let same : v ≡ z = cast ∙ ap (λ (x : ℤ). to_z w32 (of_z w32 x)) (to_z-of_z w64 z (within_fits_wide z range)) ∙ to_z-of_z w32 z (within_fits z range) in
-    ap figure (e ∙ same) ∙ figure_some z (within_fits z range) (within_other z range)
+    ap figure (e ∙ same) ∙ figure_above z (within_above z range)
 
 module _ (o : Order) (nets : ℕ) (signals : List SignalRecord) (required : List ℤ) where
   abbrev Held : ℕ → ℤ → Type 0
@@ -90,10 +76,3 @@ module _ (o : Order) (nets : ℕ) (signals : List SignalRecord) (required : List
         (subst (Least (Held n)) (sym (ap figure (get_or-set_same slacks n w (pos 0) room) ∙ e)) (row_least n x h least))
     | no q ↦ subst (λ (v : ℤ). Least (Held k) (figure v)) (sym (get_or-set_other slacks n k w (pos 0) q)) (filled k (omega arith))
   ]
-
-  -- all nets, whose slacks stand before the others
-  pub filled_all : (was slacks : List ℤ) → nets ≤ length was → length slacks ≡ nets → ((k : ℕ) → k < nets → Least (Held k) (slack_entry slacks k)) → SlacksFilled o nets signals required was (slacks ++ drop nets was)
-  filled_all was slacks room long filled = record {
-    each = λ n h. subst (λ (v : ℤ). Least (Held n) (figure v)) (sym (get_or_append_left slacks (drop nets was) (pos 0) n (omega arith))) (filled n h);
-    past = λ i h. get_or-append_right slacks (drop nets was) nets i (pos 0) long h ∙ get_or-drop nets was (i - nets) (pos 0) ∙ ap (λ (k : ℕ). get_or was k (pos 0)) (omega arith);
-  }

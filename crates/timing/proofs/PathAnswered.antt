@@ -21,7 +21,8 @@ use Rattle.timing.specs.Timed.{PathAnswered}
 use Rattle.timing.specs.RequiredRows.{as_figure, limit_figure}
 use Rattle.timing.specs.WorstPaths.{EndAt, Traceable, ArrivesBy, TracedRun}
 use Rattle.timing.proofs.Figures.{limit_is}
-use Rattle.timing.proofs.FilledSlacks.{slack_of_both, both_have_slack, in_table, table_inside}
+use Rattle.timing.proofs.AreaParts.{in_table, table_inside}
+use Rattle.timing.proofs.FilledSlacks.{slack_of_both, both_have_slack}
 use Rattle.timing.proofs.TracedPaths.{held_is}
 
 -- an end keeps a signal, its net has a limit, and they have the slack

@@ -1,5 +1,5 @@
 -- The slack of a time against a required time fits 32 bits. Assumes nothing.
-use Rattle.std.proofs.Common.{◌≡◌, ℕ, ◌+◌, ◌≤◌, ◌⊎◌, ℤ, pos, neg_ℤ, ◌≤ℤ◌, sym, subst, inl, inr, arith, w32, w64, SFits}
+use Rattle.std.proofs.Common.{◌≡◌, ℕ, ◌+◌, ◌≤◌, ◌⊎◌, ℤ, pos, neg_ℤ, ◌≤ℤ◌, ◌<ℤ◌, sym, subst, inl, inr, arith, w32, w64, SFits}
 use Rattle.std.proofs.lemmas.Int.{ints}
 use Rattle.units.specs.Senses.{Order, late_order, early_order}
 use Rattle.paths.specs.Ranges.{latest_time, longest_delay, RequiredFits}
@@ -16,12 +16,12 @@ pub slack_within : (o : Order) → (o ≡ late_order) ⊎ (o ≡ early_order) �
 slack_within o (inl late) t r h (low, high) = subst (λ (v : Order). WithinWidest (v.slack (pos t) r)) (sym late) (omega (arith, ints), omega (arith, ints))
 slack_within o (inr early) t r h (low, high) = subst (λ (v : Order). WithinWidest (v.slack (pos t) r)) (sym early) (omega (arith, ints), omega (arith, ints))
 
--- so it fits its types, and does not stand for none
+-- so it fits its types, and is above what stands for none
 pub within_fits : (z : ℤ) → WithinWidest z → SFits w32 z
 within_fits z (low, high) = omega (arith, ints)
 
 pub within_fits_wide : (z : ℤ) → WithinWidest z → SFits w64 z
 within_fits_wide z (low, high) = omega (arith, ints)
 
-pub within_other : (z : ℤ) → WithinWidest z → ¬ (z ≡ none_value)
-within_other z (low, high) e = omega (arith, ints)
+pub within_above : (z : ℤ) → WithinWidest z → none_value <ℤ z
+within_above z (low, high) = omega (arith, ints)

@@ -19,7 +19,7 @@ use Rattle.timing.specs.declared.answers.SignalRecord.{SignalRecord}
 use Rattle.timing.specs.Areas.{record_at, held_by, held_in_area, figure, required_entry, required_in_area, slack_entry, slack_in_area, ArcsPast, none_value}
 use Rattle.timing.specs.Passes.{CameFrom, Forwarded, Backward, SlacksFilled, LeastEntry}
 use Rattle.timing.specs.Timed.{SignalRecorded, PathAnswered, Areas, Timed}
-use Rattle.timing.proofs.FilledSlacks.{in_table, table_inside}
+use Rattle.timing.proofs.AreaParts.{in_table, table_inside}
 use Rattle.timing.proofs.LeastFigures.{least_same}
 
 -- a signal that came from one of the signals of the tail, where these are of another kind also

@@ -48,7 +48,8 @@ fn required_over<M: DelayModel>(model: &M, arc: Arc, step: u8, required: &[i32])
     Some(time.saturating_sub(delay as i32))
 }
 
-// Takes what an arc out of the net requires into the net's row.
+// Takes what an arc out of the net requires into the net's row. The row holds the area's numbers: the pass is slower with
+// options in it.
 fn require_over<M: DelayModel, S: Sense>(
     model: &M,
     arc: Arc,
