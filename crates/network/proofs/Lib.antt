@@ -1,4 +1,5 @@
 pub mod Counting
+pub mod EndCounts
 pub mod FanOuts
 pub mod Releasing
 pub mod SettledFacts

@@ -9,7 +9,7 @@ use Rattle.paths.specs.Blocks.{tail_of, head_of, Joined}
 use Rattle.paths.specs.Orders.{place_of, Placed, Unplaced, Numbers, TailsFirst}
 use Rattle.paths.specs.Cycles.{TakenOff}
 use Rattle.paths.proofs.Places.{at_place, place_kept, place_new, place_other, once_push, numbers_push, none_past}
-use Rattle.network.specs.Sorting.{one_if, arcs_into, Counted, waits, waiting, zeros, SourcesPlaced, Sorting, LowestPending}
+use Rattle.network.specs.Sorting.{one_if, Counted, waits, waiting, zeros, SourcesPlaced, Sorting, LowestPending}
 use Rattle.network.proofs.Counting.{count_within, count_same, count_less, count_none, count_all, none_counted}
 use Rattle.network.proofs.Writes.{after_write}
 
@@ -294,21 +294,6 @@ pub counted_front : (arcs : List Arc) (k n : ℕ) (pending : List ℕ) → n ≤
 counted_front arcs k n pending le counted h lt =
     let long = length-take-le n pending le in
     get_or-take n pending h 0 (omega arith) ∙ counted h (omega arith)
-
--- no more arcs into a net are counted than there are
-pub counted_within : (arcs : List Arc) (k : ℕ) (pending : List ℕ) (h : ℕ) → h < length pending → Counted arcs k pending → get_or pending h 0 ≤ k
-counted_within arcs k pending h lt counted = let is = counted h lt in let few = count_within (λ j. eqb (head_of arcs j) h) k in omega arith
-
--- one more arc is counted at its head
-pub counted_more : (arcs : List Arc) (k : ℕ) (pending : List ℕ) → head_of arcs k < length pending → Counted arcs k pending → Counted arcs (k + 1) (set pending (head_of arcs k) (get_or pending (head_of arcs k) 0 + 1))
-counted_more arcs k pending inside counted h lt =
-    after_write (λ n v. n < length pending → v ≡ arcs_into arcs n (k + 1)) pending (head_of arcs k) (get_or pending (head_of arcs k) 0 + 1) inside
-    (λ l. let before = counted (head_of arcs k) l in let up = one_more (head_of arcs k) in let own : one_if (eqb (head_of arcs k) (head_of arcs k)) ≡ 1 = ap one_if (eq-eqb (head_of arcs k) (head_of arcs k) refl) in omega arith)
-    (λ n ne l. let before = counted n l in let up = one_more n in let none : one_if (eqb (head_of arcs k) n) ≡ 0 = ap one_if (ne_eqb (head_of arcs k) n (λ q. ne (sym q))) in omega arith)
-    h (let long = length-set pending (head_of arcs k) (get_or pending (head_of arcs k) 0 + 1) in omega arith)
-  where
-    one_more : (n : ℕ) → arcs_into arcs n (k + 1) ≡ one_if (eqb (head_of arcs k) n) + arcs_into arcs n k
-    one_more n = let e : k + 1 ≡ suc k = omega arith in ap (arcs_into arcs n) e
 
 -- the nets that no arc leads into
 

@@ -1,5 +1,5 @@
--- What holds at each place of an array, as it is made and after a write. Assumes nothing.
-use Rattle.std.proofs.Common.{◌≡◌, ℕ, zero, suc, ◌<◌, ◌≢◌, List, length, get_or, set, replicate, sym, refl, subst}
+-- What holds at each place of an array after a write. Assumes nothing.
+use Rattle.std.proofs.Common.{ℕ, ◌<◌, ◌≢◌, List, length, get_or, set, sym, subst}
 use native.Mathlib.Decide.{ℕ_discrete}
 use Rattle.std.proofs.lemmas.List.{get_or-set_same, get_or-set_other}
 
@@ -13,9 +13,3 @@ after_set P d xs i v lt here there k = elim (ℕ_discrete k i) [
 -- the same in an array of numbers
 pub after_write : (P : ℕ → ℕ → Type 0) (xs : List ℕ) (i v : ℕ) → i < length xs → P i v → ((k : ℕ) → k ≢ i → P k (get_or xs k 0)) → (k : ℕ) → P k (get_or (set xs i v) k 0)
 after_write P xs i v = after_set P 0 xs i v
-
--- an array of zeros has 0 at each place, within it and past it
-pub all_zero : (n k : ℕ) → ◌≡◌ {A = ℕ} (get_or (replicate n 0) k 0) 0
-all_zero zero k = refl
-all_zero (suc n) zero = refl
-all_zero (suc n) (suc k) = all_zero n k

@@ -4,8 +4,9 @@ ghost use Rattle.paths.specs.Blocks.{max_nets};
 ghost use Rattle.paths.specs.Cycles.{TakenOff};
 ghost use Rattle.paths.specs.Orders.{Numbers, LowestUnplaced};
 ghost use Rattle.network.specs.FanOuts.{FansOut};
-ghost use Rattle.network.specs.Sorting.{placed_nets, zeros, Counted, SourcesPlaced, Sorting, LowestPending};
+ghost use Rattle.network.specs.Sorting.{placed_nets, zeros, SourcesPlaced, Sorting, LowestPending};
 
+use crate::counts::counts_by;
 use crate::fan_out::FanOut;
 use crate::netlist::Netlist;
 use crate::order::Order;
@@ -22,7 +23,7 @@ impl Netlist {
         ensures lowest { LowestUnplaced (length self.now.nets.items) (placed_nets result.0) result.1 }
         ensures all_placed { result.1 ≡ None → result.0.placed ≡ length self.now.nets.items }
     {
-        let mut counts = self.arcs_in();
+        let mut counts = counts_by(self.arcs(), |arc| arc.head);
         let pending = &mut counts[..self.nets.len()];
         let mut order = sources(pending);
         let mut at = 0;
@@ -38,17 +39,6 @@ impl Netlist {
             placed,
         };
         (order, lowest_unplaced(pending))
-    }
-
-    // Counts the arcs into each net.
-    fn arcs_in(&self) -> [u16; MAX_NETS]
-        ensures { Counted self.now.arcs.items (length self.now.arcs.items) result }
-    {
-        let mut counts = [0; MAX_NETS];
-        for arc in self.arcs() {
-            counts[usize::from(arc.head)] += 1;
-        }
-        counts
     }
 
     // Counts the arcs out of the net at a place off at their heads, and places each head that waits for no more.

@@ -1,18 +1,22 @@
 use Rattle.std.proofs.Common.{◌≡◌, ◌≤◌, length, take, sym, ap, ◌∙◌, subst, arith, rules, length-take-le}
 use Rattle.paths.specs.Blocks.{Joined}
 use Rattle.paths.specs.Cycles.{TakenOff}
+use Rattle.network.specs.Sorting.{Counted}
+use Rattle.network.proofs.EndCounts.{counted_heads}
 use Rattle.network.proofs.SortingSteps.{counted_front, placed_within, sorting_begins, taken_off, all_placed}
 use Rattle.network.proofs.netlist.Netlist.topological_order.Goals as goal
 
 pub loop-at-init : goal.loop-at-init
 loop-at-init c =
     let n = c.args.self.now in
-    let front : c.len.result ≤ length c.arcs_in-counts.result = search rules in
-    let count : length (take c.len.result c.arcs_in-counts.result) ≡ length n.nets.items = length-take-le _ _ front ∙ c.len.ensures ∙ n.nets.ok.0 in
+    let front : c.len.result ≤ length c.counts_by-counts.result = search rules in
+    let count : length (take c.len.result c.counts_by-counts.result) ≡ length n.nets.items = length-take-le _ _ front ∙ c.len.ensures ∙ n.nets.ok.0 in
+    let heads = counted_heads c.arcs.result.now c.counts_by-counts.result (search rules) (c.counts_by-counts.ensures.counts (λ arc. arc.head) (λ arc net is. search rules)) in
+    let counted : Counted n.arcs.items (length n.arcs.items) c.counts_by-counts.result = subst (λ arcs. Counted arcs (length arcs) c.counts_by-counts.result) c.arcs.ensures.value heads in
     record {
       within = omega arith;
       count = count;
-      sorting = sorting_begins n.arcs.items _ _ (subst (λ m. Joined m n.arcs.items) (sym count) n.joined) (counted_front _ _ _ _ front c.arcs_in-counts.ensures) c.sources-order.ensures;
+      sorting = sorting_begins n.arcs.items _ _ (subst (λ m. Joined m n.arcs.items) (sym count) n.joined) (counted_front _ _ _ _ front counted) c.sources-order.ensures;
     }
 
 pub loop-at-smaller : goal.loop-at-smaller
