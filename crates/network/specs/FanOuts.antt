@@ -1,5 +1,5 @@
 -- The arcs out of each net, in rising number. Assumes nothing.
-use Rattle.std.specs.Prelude.{◌≡◌, ℕ, ◌+◌, ◌<◌, cond, List, [], ◌∷◌, length, ◌==◌, slice_index, slice_index_or, slice_range}
+use Rattle.std.specs.Prelude.{◌≡◌, ℕ, ◌+◌, ◌<◌, cond, List, [], ◌∷◌, ◌==◌, slice_index_or, slice_range}
 use Rattle.paths.specs.declared.blocks.Arc.{Arc}
 use Rattle.paths.specs.Blocks.{max_nets}
 use Rattle.network.specs.declared.fan_out.Span.{Span}
@@ -25,7 +25,3 @@ listed f n = slice_range f.arcs (span_of f.spans n).start (span_of f.spans n).en
 -- each net's part holds the arcs out of it
 abbrev pub FansOut : List Arc → FanOut → Type 0
 FansOut arcs f = (n : ℕ) → n < max_nets → listed f n ≡ arcs_out arcs n 0
-
--- each number in a net's part is that of one of so many arcs
-abbrev pub ArcsWithin : ℕ → FanOut → Type 0
-ArcsWithin arcs f = (n k : ℕ) → n < max_nets → k < length (listed f n) → slice_index (listed f n) k < arcs

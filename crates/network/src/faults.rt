@@ -2,6 +2,7 @@
 ghost use Rattle.std.specs.Prelude.{◌≡◌};
 ghost use Rattle.network.specs.Faults.{refusal_of};
 
+use paths::blocks::{MAX_ARCS, MAX_NETS};
 use units::refusals::{Layer, Refusal};
 
 #[derive(Clone, Copy, PartialEq, Eq, Debug)]
@@ -30,8 +31,8 @@ impl From<DraftFault> for Refusal {
 
     fn from(fault: DraftFault) -> Refusal {
         let (number, place) = match fault {
-            DraftFault::NetsFull => (9, 256),
-            DraftFault::ArcsFull => (10, 1024),
+            DraftFault::NetsFull => (9, MAX_NETS),
+            DraftFault::ArcsFull => (10, MAX_ARCS),
             DraftFault::NoSuchNet(net) => (11, net as usize),
             DraftFault::LaunchTooLate(time) => (12, time as usize),
             DraftFault::TransitionTooLong(transition) => (12, transition as usize),

@@ -2,7 +2,6 @@
 ghost use Rattle.std.specs.Prelude.{◌≡◌, ◌≤◌, length};
 ghost use Rattle.paths.specs.Blocks.{max_nets, max_arcs, Joined, LateLimitsFit, EarlyLimitsFit};
 ghost use Rattle.paths.specs.Orders.{Numbers};
-ghost use Rattle.network.specs.FanOuts.{ArcsWithin};
 
 use network::fan_out::FanOut;
 use paths::blocks::{Arc, Net};
@@ -20,5 +19,4 @@ pub struct Circuit<'a> {
     ghost earlies: { EarlyLimitsFit nets.now },
     ghost long: { length order.now ≡ length nets.now },
     ghost numbers: { Numbers (length nets.now) order.now },
-    ghost arcs_out: { ArcsWithin (length arcs.now) fan_out.now },
 }

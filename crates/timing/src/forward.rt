@@ -24,7 +24,7 @@ fn offer_launch<S: Sense>(launch: Option<Launch>, net: u16, signals: &mut [Signa
     }
 }
 
-// Carries the signal of one step at the tail over an arc; answers how many it carried.
+// Carries the signal of one step at the tail over an arc; answers how many it carried, for the counter of the whole pass.
 fn carry_signal<M: DelayModel, S: Sense>(
     model: &M,
     arc: Arc,
@@ -58,6 +58,7 @@ fn carry_arc<M: DelayModel, S: Sense>(
     ensures { result ≤ step_count }
 {
     let mut carried = 0;
+    // The step is what the model is asked at, and not an index alone.
     for step in 0..=LAST_STEP {
         carried += carry_signal::<M, S>(model, arc, number, step, signals);
     }
@@ -77,7 +78,10 @@ fn carry_fan_out<M: DelayModel, S: Sense>(
 {
     let mut carried = 0;
     for &number in circuit.fan_out.arcs_out(net) {
-        let arc = circuit.arcs[usize::from(number)];
+        // Past the arcs there is none.
+        let Some(&arc) = circuit.arcs.get(usize::from(number)) else {
+            break;
+        };
         carried += carry_arc::<M, S>(model, arc, number, signals);
     }
     carried

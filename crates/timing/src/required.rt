@@ -1,10 +1,8 @@
 // The backward pass: the required times of every net and step, from the limits back along the arcs.
 ghost use Rattle.std.specs.Prelude.{◌≡◌, ◌+◌, ◌*◌, ◌<◌, ◌≤◌, length};
-ghost use Rattle.paths.specs.Blocks.{largest_limit, block, limit_of};
+ghost use Rattle.paths.specs.Blocks.{largest_limit, limit_of};
 ghost use Rattle.units.specs.Steps.{step_count};
-ghost use Rattle.timing.specs.Areas.{HasEntry, required_entry};
-ghost use Rattle.timing.specs.Passes.{Backward};
-ghost use Rattle.timing.specs.RequiredRows.{limit_figure, HarderOf, required_over, EntryFits, RowFits, HeadsReady, RowOver, RequiredRow};
+ghost use Rattle.timing.specs.RequiredRows.{limit_figure, HarderOf, EntryFits};
 
 use crate::answers::place;
 use crate::circuit::Circuit;
@@ -77,7 +75,10 @@ fn required_row<M: DelayModel, S: Sense>(
     let limit = limit_of::<S>(circuit.nets[usize::from(net)]);
     let mut row = [entry_of(limit); STEPS];
     for &number in circuit.fan_out.arcs_out(net) {
-        let arc = circuit.arcs[usize::from(number)];
+        // Past the arcs there is none.
+        let Some(&arc) = circuit.arcs.get(usize::from(number)) else {
+            break;
+        };
         require_over::<M, S>(model, arc, required, &mut row);
     }
     row

@@ -1,11 +1,9 @@
 // The slack of every net, and the worst of them.
-ghost use Rattle.std.specs.Prelude.{◌≡◌, ℕ, ◌+◌, ◌*◌, ◌<◌, ◌≤◌, length, ℤ, Some};
-ghost use Rattle.paths.specs.Blocks.{max_nets};
-ghost use Rattle.paths.specs.Ranges.{latest_time, RequiredFits};
-ghost use Rattle.timing.specs.Areas.{record_at, held_by, figure, required_entry};
-ghost use Rattle.timing.specs.Passes.{SlacksFilled, LeastEntry};
+ghost use Rattle.std.specs.Prelude.{◌≡◌, ◌+◌, ◌*◌, ◌≤◌, length};
+ghost use Rattle.timing.specs.Areas.{held_by};
+ghost use Rattle.timing.specs.Passes.{LeastEntry};
 ghost use Rattle.timing.specs.SlackFigures.{slack_figure, LeastOfRow};
-ghost use Rattle.units.specs.Steps.{step_count, last_step};
+ghost use Rattle.units.specs.Steps.{step_count};
 
 use crate::answers::{SignalRecord, row};
 use crate::entries::{entry_of, figure};
@@ -32,18 +30,11 @@ fn net_slack<S: Sense>(signals: &[SignalRecord], required: &[i32], net: usize) -
 }
 
 // Fills the slack of every net.
-pub fn fill_slacks<S: Sense>(
-    signals: &[SignalRecord],
-    required: &[i32],
-    nets: usize,
-    slacks: &mut [i32],
-)
-    requires nets { nets ≤ max_nets }
-    requires signals { step_count * nets ≤ length signals.now }
-    requires required { step_count * nets ≤ length required.now }
-    requires slacks { nets ≤ length slacks.old }
+pub fn fill_slacks<S: Sense>(signals: &[SignalRecord], required: &[i32], slacks: &mut [i32])
+    requires signals { step_count * length slacks.old ≤ length signals.now }
+    requires required { step_count * length slacks.old ≤ length required.now }
 {
-    for (net, slack) in slacks[..nets].iter_mut().enumerate() {
+    for (net, slack) in slacks.iter_mut().enumerate() {
         let least = net_slack::<S>(signals, required, net);
         // Times and required times are so small that a slack always fits.
         *slack = entry_of(least.and_then(|slack| i32::try_from(slack).ok()));
@@ -51,12 +42,8 @@ pub fn fill_slacks<S: Sense>(
 }
 
 // The worst slack of all nets.
-pub fn worst_slack(slacks: &[i32], nets: usize) -> Option<i32>
-    requires { nets ≤ length slacks.now }
-    ensures { LeastEntry nets slacks.now result }
+pub fn worst_slack(slacks: &[i32]) -> Option<i32>
+    ensures { LeastEntry (length slacks.now) slacks.now result }
 {
-    slacks[..nets]
-        .iter()
-        .filter_map(|slack| figure(*slack))
-        .min()
+    slacks.iter().filter_map(|slack| figure(*slack)).min()
 }

@@ -2,11 +2,9 @@
 ghost use Rattle.std.specs.Prelude.{◌*◌, ◌≤◌, length};
 ghost use Rattle.units.specs.Refusals.{Outcome};
 ghost use Rattle.units.specs.Steps.{step_count};
-ghost use Rattle.paths.specs.Blocks.{max_nets, max_arcs, block};
+ghost use Rattle.paths.specs.Blocks.{max_nets};
 ghost use Rattle.timing.specs.Faults.{refusal_of};
-ghost use Rattle.timing.specs.Passes.{Forwarded, Backward, SlacksFilled};
 ghost use Rattle.timing.specs.Rows.{area_rows, AreasFit, kind_rows, KindsHeld};
-ghost use Rattle.timing.specs.Timed.{areas, TimeOutcome};
 
 use crate::answers::{Answer, SignalRecord};
 use crate::circuit::Circuit;
@@ -48,12 +46,11 @@ fn test_areas(
 }
 
 // Tests that the model holds the kind of every arc.
-fn test_kinds<M: DelayModel>(model: &M, arcs: &[Arc]) -> Result<(), TimingFault>
-    requires { length arcs.now ≤ max_arcs }
-    ensures { Outcome refusal_of (kind_rows (M.DelayModel.meaning model.now).count arcs.now) result (λ _. KindsHeld (M.DelayModel.meaning model.now).count arcs.now) (Unit {0}) }
+fn test_kinds<M: DelayModel>(model: &M, circuit: &Circuit<'_>) -> Result<(), TimingFault>
+    ensures { Outcome refusal_of (kind_rows (M.DelayModel.meaning model.now).count circuit.now.arcs.now) result (λ _. KindsHeld (M.DelayModel.meaning model.now).count circuit.now.arcs.now) (Unit {0}) }
 {
     let count = model.count();
-    match arcs.iter().position(|arc| arc.kind >= count) {
+    match circuit.arcs.iter().position(|arc| arc.kind >= count) {
         Some(i) => Err(TimingFault::KindNotHeld(i as u16)),
         None => Ok(()),
     }
@@ -73,7 +70,7 @@ fn fill_figures<M: DelayModel, S: Sense>(
 {
     let carried = propagate::<M, S>(model, circuit, signals);
     require_all::<M, S>(model, circuit, required);
-    fill_slacks::<S>(signals, required, circuit.nets.len(), slacks);
+    fill_slacks::<S>(signals, required, &mut slacks[..circuit.nets.len()]);
     carried
 }
 
@@ -87,9 +84,9 @@ pub fn time<M: DelayModel, S: Sense>(
     path: &mut [u16],
 ) -> Result<Answer, TimingFault> {
     test_areas(circuit.nets.len(), signals, required, slacks, path)?;
-    test_kinds(model, circuit.arcs)?;
+    test_kinds(model, circuit)?;
     let carried = fill_figures::<M, S>(model, circuit, signals, required, slacks);
-    let worst = worst_slack(slacks, circuit.nets.len());
+    let worst = worst_slack(&slacks[..circuit.nets.len()]);
     let end = worst.and_then(|worst| end_of::<S>(circuit, signals, worst));
     let (start, arcs) = end.map_or(
         (0, 0),

@@ -1,10 +1,8 @@
 // A complete path of the worst slack: its end, and from there back to its start.
-ghost use Rattle.std.specs.Prelude.{◌≡◌, ℕ, ◌+◌, ◌*◌, ◌<◌, ◌≤◌, reverse, length, take, ◌≢◌, MatchOption};
+ghost use Rattle.std.specs.Prelude.{◌+◌, ◌*◌, ◌≤◌, length};
 ghost use Rattle.units.specs.Steps.{step_count};
 ghost use Rattle.paths.specs.Blocks.{max_path};
-ghost use Rattle.timing.specs.Areas.{ArcsPast};
-ghost use Rattle.timing.specs.Passes.{launched_mark};
-ghost use Rattle.timing.specs.WorstPaths.{EndAt, EndStep, SomeTraceable, TracedRun};
+ghost use Rattle.timing.specs.WorstPaths.{EndStep};
 
 use crate::answers::{NO_SIGNAL, SignalRecord, place, row};
 use crate::circuit::Circuit;
@@ -37,6 +35,7 @@ pub fn end_of<S: Sense>(
 ) -> Option<(u16, u8)>
     requires { step_count * length circuit.now.nets.now ≤ length signals.now }
 {
+    // No `find_map`: what it asks of its closure stayed open.
     for (n, net) in circuit.nets.iter().enumerate() {
         if let Some(step) = end_step::<S>(signals, n, limit_of::<S>(*net), worst) {
             return Some((n as u16, step));

@@ -12,14 +12,6 @@ pub trait Figure: Copy {
         ensures { result ≡ value self };
 }
 
-impl Figure for u8 {
-    ghost value = { pos };
-
-    fn value(self) -> i64 {
-        i64::from(self)
-    }
-}
-
 impl Figure for u32 {
     ghost value = { pos };
 

@@ -10,9 +10,9 @@ use Rattle.timing.proofs.timer.test_kinds.Given.{Over}
 use Rattle.timing.proofs.timer.test_kinds.Goals as goal
 use Rattle.timing.proofs.timer.test_kinds.Goals.{After-position}
 
-tested : (g : Over) (c : After-position g) → MatchOption c.position.result ((first (kind_rows c.count-count.result c.args.arcs.now) ≡ None) × KindsHeld c.count-count.result c.args.arcs.now) (λ i. first (kind_rows c.count-count.result c.args.arcs.now) ≡ Some (timing_refusal 23 i))
+tested : (g : Over) (c : After-position g) → MatchOption c.position.result ((first (kind_rows c.count-count.result c.args.circuit.now.arcs.now) ≡ None) × KindsHeld c.count-count.result c.args.circuit.now.arcs.now) (λ i. first (kind_rows c.count-count.result c.args.circuit.now.arcs.now) ≡ Some (timing_refusal 23 i))
 tested g c =
-    let arcs = c.args.arcs.now in
+    let arcs = c.args.circuit.now.arcs.now in
     let count = c.count-count.result in
     kinds_tested count arcs c.position.result (IsFirst-from_position _ _ c.position.result (λ a. count ≤ a.kind) (λ a. a.kind < count) c.position.ensures.ran (YieldsList-from_slice arcs (search rules)) (λ x q k. search (rules, tests)) (λ x q k. search (rules, tests)))
 

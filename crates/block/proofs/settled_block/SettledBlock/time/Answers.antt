@@ -1,4 +1,3 @@
-use Rattle.network.proofs.FanOuts.{arcs_within}
 use Rattle.block.proofs.TimedBlocks.{timing_facts}
 use Rattle.block.proofs.settled_block.SettledBlock.time.Goals as goal
 
@@ -7,9 +6,6 @@ invariant_of-circuit-clause-joined g c = rw c.nets.ensures.value c.arcs.ensures.
 
 pub invariant_of-circuit-clause-numbers : goal.invariant_of-circuit-clause-numbers
 invariant_of-circuit-clause-numbers g c = rw c.nets.ensures.value c.order.ensures.numbers
-
-pub invariant_of-circuit-clause-arcs_out : goal.invariant_of-circuit-clause-arcs_out
-invariant_of-circuit-clause-arcs_out g c = arcs_within c.arcs.result.now c.fan_out.result.now (rw c.arcs.ensures.value c.fan_out.ensures.fans)
 
 pub returns-in-Some-clause-facts : goal.returns-in-Some-clause-facts
 returns-in-Some-clause-facts g c = timing_facts c.args.self.now.network _ g.S.Sense.order (g.met.M.DelayModel.lawful c.args.model.now) g.met.S.Sense.lawful g.met.S.Sense.late_or_early
