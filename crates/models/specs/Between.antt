@@ -10,7 +10,7 @@ pub div_rises : (n : ℕ) {x y : ℕ} → 0 < n → x ≤ y → x / n ≤ y / n
 div_rises n {x} {y} n0 h = (le-div_iff_mul-le n0).1 (le_trans (div-mul-le_self x n) h)
 
 -- a part of the way from one figure up to another
-part_at_most : (low high past span : ℕ) → low ≤ high → past ≤ span → low + (high - low) * past / span ≤ high
+pub part_at_most : (low high past span : ℕ) → low ≤ high → past ≤ span → low + (high - low) * past / span ≤ high
 part_at_most low high past span a b =
     let y : (high - low) * past ≤ span * (high - low) = le_trans (mul-le-mul_left (high - low) b) (le_of_eq (mul_comm (high - low) span)) in
     omega (arith, div-le_of_le-mul span y)
@@ -86,6 +86,11 @@ interpolated_first f (p ∷ ps) zero s z l below reach = absurd (not-suc-le-zero
 interpolated_first f (p ∷ ps) (suc i) s z l below reach =
     let e : suc i - 1 ≡ i = omega arith in
     rw e (from_first f p ps i s (le_of_suc-le-suc l) (λ j k. below (suc j) (suc-le-suc zero-le) (suc-le-suc k)) reach)
+
+-- a point against the one before it
+pub rises_before : (gap : ℕ) (f : Point → ℕ) (ps : List Point) (r : ℕ) → RisesBy gap f ps → 0 < r → r < length ps → f (point_at ps (r - 1)) + gap ≤ f (point_at ps r)
+rises_before gap f ps zero h z l = absurd (not-suc-le-zero z)
+rises_before gap f ps (suc i) h z l = let e : suc i - 1 ≡ i = omega arith in rw e (h i l)
 
 -- any two neighbours that hold the step give the figure
 

@@ -1,15 +1,15 @@
 -- The meanings of the models are lawful. Assumes nothing.
-use Rattle.std.specs.Prelude.{◌≡◌, ℕ, ◌*◌, ◌/◌, ◌<◌, ◌≤◌, List, [], map, length, slice_index_or, refl}
+use Rattle.std.specs.Prelude.{◌≡◌, ℕ, zero, suc, ◌*◌, ◌/◌, ◌<◌, ◌≤◌, ◌⊎◌, List, [], ◌∷◌, ◌++◌, map, length, get_or, slice_index_or, refl}
 use Rattle.std.specs.List.{All}
-use Rattle.std.proofs.Common.{zero-mul, mul-le-mul_right, le_refl, arith, lit<}
+use Rattle.std.proofs.Common.{sym, subst, inl, inr, zero-le, zero-mul, mul-le-mul_right, le_refl, not-suc-le-zero, arith, lit<}
 use Rattle.std.proofs.lemmas.Bool.Decides.{nat_tests}
-use Rattle.std.proofs.lemmas.List.{length-map}
+use Rattle.std.proofs.lemmas.List.{length-map, map-append, get_or_past}
 use Rattle.std.proofs.lemmas.List.Elements.{All-map, All-from_get_or}
 use Rattle.units.specs.Senses.{NeverFalls}
 use Rattle.units.specs.Steps.{last_step}
 use Rattle.models.specs.declared.point.Point.{Point}
 use Rattle.models.specs.declared.curve.Curve.{Curve}
-use Rattle.models.specs.Curves.{points_of}
+use Rattle.models.specs.Curves.{points_of, kinds_of}
 use Rattle.models.specs.Derating.{derated}
 use Rattle.models.specs.Kinds.{point_step, point_delay, point_output_step, RisesBy, AtMost, DelaysFit, figures_at, Interpolates, no_figures, kinds_meaning, points_meaning, FixedDelaysFit, FixedOutputStepsFit, fixed_figures, fixed_meaning}
 use Rattle.models.specs.Meaning.{Meaning, LawfulFigure, Lawful, LawfulKind, max_kinds, max_delay, where_held}
@@ -20,6 +20,13 @@ where_not_held count figure k s h = grind (arith, nat_tests)
 
 where_past_last : (count : ℕ) (figure : ℕ → ℕ → ℕ) (k s : ℕ) → last_step < s → where_held count figure k s ≡ 0
 where_past_last count figure k s h = grind (arith, nat_tests)
+
+pub where_absent : (count : ℕ) (figure : ℕ → ℕ → ℕ) (k s : ℕ) → (count ≤ k) ⊎ (last_step < s) → where_held count figure k s ≡ 0
+where_absent count figure k s (inl h) = where_not_held count figure k s h
+where_absent count figure k s (inr h) = where_past_last count figure k s h
+
+pub where_both : (count : ℕ) (figure : ℕ → ℕ → ℕ) (k s : ℕ) → k < count → s ≤ last_step → where_held count figure k s ≡ figure k s
+where_both count figure k s h i = grind (arith, nat_tests)
 
 held_fits : (count top : ℕ) (figure : ℕ → ℕ → ℕ) (k s : ℕ) → (k < count → s ≤ last_step → figure k s ≤ top) → where_held count figure k s ≤ top
 held_fits count top figure k s h = grind (arith, nat_tests, h)
@@ -51,6 +58,16 @@ pub given_kinds_lawful : {K G : Type 0} (given : K → G) (figures : G → ℕ �
 given_kinds_lawful given figures law kinds few =
     kinds_lawful (map figures (map given kinds)) (simp length-map few)
     (All-map LawfulKind figures (map given kinds) (All-map (λ y. LawfulKind (figures y)) given kinds (λ k d l. law (slice_index_or kinds k d))))
+
+-- what holds of every place of a list, and of its default, holds after a push
+pub pushed : {X : Type 0} (P : X → Type 0) (xs : List X) (y d : X) → ((k : ℕ) → P (slice_index_or xs k d)) → P y → P d → (k : ℕ) → P (slice_index_or (xs ++ y ∷ []) k d)
+pushed P [] y d h py pd zero = py
+pushed P [] y d h py pd (suc k) = pd
+pushed P (x ∷ xs) y d h py pd zero = h 0
+pushed P (x ∷ xs) y d h py pd (suc k) = pushed P xs y d (λ j. h (suc j)) py pd k
+
+pub pushed_into : {X : Type 0} (P : X → Type 0) (xs zs : List X) (y d : X) → zs ≡ xs ++ y ∷ [] → ((k : ℕ) → P (slice_index_or xs k d)) → P y → P d → (k : ℕ) → P (slice_index_or zs k d)
+pushed_into P xs zs y d e h py pd k = subst (λ l. P (slice_index_or l k d)) (sym e) (pushed P xs y d h py pd k)
 
 -- kinds given by points
 
@@ -84,6 +101,30 @@ points_lawful kinds few sound =
 
 pub sound_curve : (c : Curve) → SoundKind (points_of c)
 sound_curve c = record { steps = c.steps; delays = c.delays; output_steps = c.output_steps; delays_fit = c.delays_fit; output_steps_fit = c.output_steps_fit }
+
+pub sound_kinds : (curves : List Curve) (k : ℕ) → SoundKind (slice_index_or (kinds_of curves) k [])
+sound_kinds [] k = record {
+  steps = λ i l. absurd (not-suc-le-zero l);
+  delays = λ i l. absurd (not-suc-le-zero l);
+  output_steps = λ i l. absurd (not-suc-le-zero l);
+  delays_fit = λ s l. zero-le;
+  output_steps_fit = λ i l. absurd (not-suc-le-zero l);
+}
+sound_kinds (c ∷ curves) zero = sound_curve c
+sound_kinds (c ∷ curves) (suc k) = sound_kinds curves k
+
+pub kinds_push : (curves : List Curve) (c : Curve) → kinds_of (curves ++ c ∷ []) ≡ kinds_of curves ++ points_of c ∷ []
+kinds_push curves c = map-append points_of curves (c ∷ [])
+
+pub kinds_length : (curves : List Curve) → length (kinds_of curves) ≡ length curves
+kinds_length curves = length-map curves points_of
+
+-- a kind that is not held has no points, and no step past the last is asked for
+pub absent_interpolates : (kinds : List (List Point)) (k s : ℕ) (figures : ℕ × ℕ) → (length kinds ≤ k) ⊎ (last_step < s) → s ≤ last_step → Interpolates (slice_index_or kinds k []) s figures
+absent_interpolates kinds k s figures (inl h) le =
+    let e : get_or kinds k [] ≡ [] = get_or_past kinds k [] h in
+    subst (λ (ps : List Point). Interpolates ps s figures) (sym e) (λ i l. absurd (not-suc-le-zero l))
+absent_interpolates kinds k s figures (inr h) le = absurd (omega arith)
 
 -- kinds of fixed figures
 

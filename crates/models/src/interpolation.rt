@@ -37,6 +37,7 @@ fn interpolate(points: &[Point], step: u8) -> (u32, u8)
     ensures bound { result.0 ≤ max_delay }
 {
     let i = reaching(points, step);
+    // By index: with `array_windows().find(..)`, which window is found stayed open.
     let (lower, upper) = (points[i - 1], points[i]);
     let past = u32::from(step - lower.step);
     let span = u32::from(upper.step - lower.step);

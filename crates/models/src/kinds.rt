@@ -93,6 +93,7 @@ impl<K: Kind> DelayModel for Kinds<K> {
     {
         match self.get(kind) {
             Some(held) if step <= LAST_STEP => held.figures(step),
+            // A kind not held or a step past the last: the interface promises 0 and 0.
             _ => (0, 0),
         }
     }
