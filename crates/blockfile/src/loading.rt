@@ -49,6 +49,7 @@ fn add_kind(model: &mut Points, bytes: &[u8]) -> Result<u8, ModelFault>
 {
     let (chunks, _) = bytes.as_chunks();
     let mut points = ArrayVec::<Point, MAP_BITS>::new();
+    // Not by `extend`: ArrayVec's answers a `Result`, a refusal that is not there.
     for chunk in chunks {
         points.push(point_of(chunk));
     }
