@@ -11,6 +11,7 @@ use paths::blocks::{Launch, Net};
 pub struct Field {
     bit: u32,
     len: usize,
+    ghost bit_fits: { bit < 8 },
 }
 
 // The fields of a net, and the bits that they have.
@@ -36,7 +37,6 @@ pub const ARC_BITS: u8 = 0b111;
 impl Field {
     // Whether a map announces the field.
     pub fn is_in(self, map: u8) -> bool
-        requires { self.bit < 8 }
         ensures { result ≡ (map / 2 ^ self.bit % 2 == 1) }
     {
         map >> self.bit & 1 == 1
@@ -44,7 +44,6 @@ impl Field {
 
     // The bytes of the field under a map: none where it is absent.
     pub fn len_in(self, map: u8) -> usize
-        requires { self.bit < 8 }
         ensures { result ≡ field_len map (2 ^ self.bit) self.len }
     {
         if self.is_in(map) { self.len } else { 0 }
@@ -55,6 +54,7 @@ pub fn u8_of(field: &[u8]) -> Option<u8> {
     field.first().copied()
 }
 
+// One for each width: `from_le_bytes` is a method of each integer type, and no trait of std has it.
 pub fn u16_of(field: &[u8]) -> Option<u16> {
     field.first_chunk().map(|bytes| u16::from_le_bytes(*bytes))
 }

@@ -20,8 +20,10 @@ fn test_figures(net: &Net) -> Result<(), DraftFault> {
     net.launch.map_or(Ok(()), |launch| {
         test_launch(launch.time, launch.transition)
     })?;
-    net.late_limit.map_or(Ok(()), test_limit)?;
-    net.early_limit.map_or(Ok(()), test_limit)
+    [net.late_limit, net.early_limit]
+        .into_iter()
+        .flatten()
+        .try_for_each(test_limit)
 }
 
 // Adds a net with its launch and limits, whole or not at all: after these tests none of the draft's calls refuses.
@@ -34,11 +36,10 @@ fn add_net(draft: &mut Draft, net: Net) -> Result<(), DraftFault> {
     if let Some(launch) = net.launch {
         draft.launch(number, launch.time, launch.transition)?;
     }
-    if let Some(value) = net.late_limit {
-        draft.limit(number, Side::Late, value)?;
-    }
-    if let Some(value) = net.early_limit {
-        draft.limit(number, Side::Early, value)?;
+    for (side, value) in [(Side::Late, net.late_limit), (Side::Early, net.early_limit)] {
+        if let Some(value) = value {
+            draft.limit(number, side, value)?;
+        }
     }
     Ok(())
 }
@@ -49,6 +50,7 @@ fn add_kind(model: &mut Points, bytes: &[u8]) -> Result<u8, ModelFault>
 {
     let (chunks, _) = bytes.as_chunks();
     let mut points = ArrayVec::<Point, MAP_BITS>::new();
+    // Not by `extend`: ArrayVec's answers a `Result`, a refusal that is not there.
     for chunk in chunks {
         points.push(point_of(chunk));
     }

@@ -36,7 +36,8 @@ impl TryFrom<u8> for Tag {
     }
 }
 
-// The fields are parts of the file, low byte first; one that is absent is an empty part.
+// The fields are parts of the file, low byte first.
+// One that is absent is an empty part: the length of a part is what tells.
 #[derive(Clone, Copy)]
 pub enum Record<'a> {
     Net {
