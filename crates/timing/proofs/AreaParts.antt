@@ -1,4 +1,4 @@
--- The parts of an area: its first entries, the row of a net, and its table. Assumes nothing.
+-- The parts of an area: the row of a net, and its table. Assumes nothing.
 use Rattle.std.proofs.Common.{◌≡◌, ℕ, ◌+◌, ◌-◌, ◌*◌, ◌<◌, ◌≤◌, Bool, true, false, cond, ltb, List, length, get_or, drop, Some, None, Option, refl, ap, ◌∙◌, arith}
 use Rattle.std.proofs.lemmas.Bool.{lt-ltb, ltb-true}
 use Rattle.std.proofs.lemmas.Option.{none-some}
@@ -8,9 +8,6 @@ use Rattle.std.proofs.lemmas.List.Edits.{get_or-between}
 use Rattle.std.proofs.lemmas.Slice.Zip.{length-zip, get_or-zip}
 use Rattle.units.specs.Steps.{step_count}
 use Rattle.timing.specs.Areas.{place, inside}
-
-pub front_at : {X : Type 0} (xs : List X) (k i : ℕ) (d : X) → i < k → get_or (slice_range xs 0 k) i d ≡ get_or xs i d
-front_at xs k i d h = get_or-between xs 0 k i d (omega arith) ∙ ap (λ (j : ℕ). get_or xs j d) (omega arith)
 
 -- the row of net n
 abbrev pub row_of : {X : Type 0} → List X → ℕ → List X

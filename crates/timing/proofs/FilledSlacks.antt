@@ -1,9 +1,9 @@
 -- The slacks that are filled in net by net. Assumes nothing.
-use Rattle.std.proofs.Common.{◌≡◌, ℕ, ◌+◌, ◌<◌, ◌≤◌, ◌⊎◌, List, length, set, ℤ, pos, ◌≤ℤ◌, Some, None, Option, sym, refl, ap, ◌∙◌, subst, arith, w32, w64, to_z, of_z}
+use Rattle.std.proofs.Common.{◌≡◌, ℕ, ◌+◌, ◌<◌, ◌≤◌, ◌⊎◌, List, length, set, take, ℤ, pos, ◌≤ℤ◌, Some, None, Option, sym, refl, ap, ◌∙◌, subst, arith, w32, w64, to_z, of_z}
 use native.Mathlib.Decide.{ℕ_discrete}
 use Rattle.std.specs.Option.{MatchOption, IsSomeAnd}
 use Rattle.std.proofs.lemmas.Int.{to_z-of_z}
-use Rattle.std.proofs.lemmas.List.{get_or-set_same, get_or-set_other}
+use Rattle.std.proofs.lemmas.List.{get_or-set_same, get_or-set_other, get_or-take, length-take-le}
 use Rattle.units.specs.Senses.{Order, late_order, early_order}
 use Rattle.units.specs.Steps.{step_count, last_step}
 use Rattle.paths.specs.Slacks.{Least}
@@ -13,6 +13,7 @@ use Rattle.paths.proofs.Firsts.{first_is}
 use Rattle.std.proofs.lemmas.Option.{none-some, same_Some}
 use Rattle.timing.specs.declared.answers.SignalRecord.{SignalRecord}
 use Rattle.timing.specs.Areas.{record_at, held_by, held_in_area, figure, required_entry, required_in_area, slack_entry, entry_of}
+use Rattle.timing.specs.Passes.{LeastEntry}
 use Rattle.timing.specs.SlackFigures.{slack_figure, slack_of_entries, LeastOfRow}
 use Rattle.timing.proofs.AreaParts.{in_table, table_inside}
 use Rattle.timing.proofs.Figures.{figure_above}
@@ -76,3 +77,10 @@ module _ (o : Order) (nets : ℕ) (signals : List SignalRecord) (required : List
         (subst (Least (Held n)) (sym (ap figure (get_or-set_same slacks n w (pos 0) room) ∙ e)) (row_least n x h least))
     | no q ↦ subst (λ (v : ℤ). Least (Held k) (figure v)) (sym (get_or-set_other slacks n k w (pos 0) q)) (filled k (omega arith))
   ]
+
+-- the least entry of the front is the least of the area's first entries
+pub front_least : (nets : ℕ) (slacks : List ℤ) (z : Option ℤ) → nets ≤ length slacks → LeastEntry (length (take nets slacks)) (take nets slacks) z → LeastEntry nets slacks z
+front_least nets slacks z fit least =
+    let at : (n : ℕ) → n < nets → slack_entry (take nets slacks) n ≡ slack_entry slacks n = λ n h. ap figure (get_or-take nets slacks n (pos 0) h) in
+    least_same (λ a. (n : ℕ) × (n < nets) × (slack_entry (take nets slacks) n ≡ Some a)) (λ a. (n : ℕ) × (n < nets) × (slack_entry slacks n ≡ Some a)) (λ a (n, h, e). (n, h, sym (at n h) ∙ e)) (λ a (n, h, e). (n, h, at n h ∙ e)) z
+    (subst (λ (k : ℕ). LeastEntry k (take nets slacks) z) (length-take-le nets slacks fit) least)

@@ -29,7 +29,7 @@ fn net_slack<S: Sense>(signals: &[SignalRecord], required: &[i32], net: usize) -
         .min()
 }
 
-// Fills the slack of every net.
+// Fills the slacks, one entry for each net.
 pub fn fill_slacks<S: Sense>(signals: &[SignalRecord], required: &[i32], slacks: &mut [i32])
     requires signals { step_count * length slacks.old ≤ length signals.now }
     requires required { step_count * length slacks.old ≤ length required.now }

@@ -15,7 +15,7 @@ use crate::required::require_all;
 use crate::slacks::{fill_slacks, worst_slack};
 use crate::worst_path::{end_of, trace};
 use models::delay_model::DelayModel;
-use paths::blocks::{Arc, MAX_PATH};
+use paths::blocks::MAX_PATH;
 use units::senses::Sense;
 use units::steps::STEPS;
 
