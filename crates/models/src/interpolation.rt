@@ -20,7 +20,8 @@ fn part_way(low: u32, high: u32, past: u32, span: u32) -> u32
     low + (high - low) * past / span
 }
 
-// The first point after the first that reaches the step.
+// The first point after the first that reaches the step. Here points are lent, before a curve's type says that they are
+// well formed, so it is asked.
 fn reaching(points: &[Point], step: u8) -> usize
     requires formed { WellFormed points.now }
     requires step { step ≤ last_step }

@@ -18,6 +18,7 @@ pub struct Netlist {
     ghost earlies: { EarlyLimitsFit nets.items },
 }
 
+// Draft and settled network are types of their own, and lend what this lends.
 impl Netlist {
     pub(crate) fn nets(&self) -> &[Net]
         ensures value { result.now ≡ self.now.nets.items }

@@ -68,7 +68,7 @@ impl Netlist {
     }
 }
 
-// The nets that no arc leads into, in rising number.
+// The nets that no arc leads into, in rising number. Counts are lent, one for each net, so their bound is asked.
 fn sources(pending: &[u16]) -> ArrayVec<u16, MAX_NETS>
     requires { length pending.now ≤ max_nets }
     ensures { SourcesPlaced pending.now (length pending.now) result.items }
@@ -82,7 +82,8 @@ fn sources(pending: &[u16]) -> ArrayVec<u16, MAX_NETS>
     order
 }
 
-// Appends the nets that still wait for an arc into them, in rising number.
+// Appends the nets that still wait for an arc into them, in rising number. One function for these and for the sources,
+// given the test, would have to say by an existential what room it needs.
 fn append_unplaced(pending: &[u16], order: &mut ArrayVec<u16, MAX_NETS>)
     requires few { length pending.now ≤ max_nets }
     requires full { length order.old.items ≡ zeros pending.now (length pending.now) }

@@ -24,7 +24,7 @@ impl fmt::Display for FaultLine {
     }
 }
 
-// A slack, or `-` where there is none.
+// A slack as its area has it, or `-` where there is none.
 #[derive(Clone, Copy)]
 struct Slack(i32);
 
@@ -95,7 +95,7 @@ impl fmt::Display for NetLine {
     }
 }
 
-// The nets by number, each with its slacks.
+// The nets by number, each with its slacks from the areas of the two timings.
 #[derive(Clone, Copy)]
 struct NetLines<'a> {
     late: &'a [i32],

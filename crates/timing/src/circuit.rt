@@ -6,7 +6,8 @@ ghost use Rattle.paths.specs.Orders.{Numbers};
 use network::fan_out::FanOut;
 use paths::blocks::{Arc, Net};
 
-// Nets and arcs are lent apart, so that arcs of other kinds can stand in for a block's own.
+// Nets and arcs are lent apart, so that arcs of other kinds can stand in for a block's own; so some of a netlist's facts
+// stand here again. The passes walk a net's arcs each with a step of its own.
 #[derive(Clone, Copy)]
 pub struct Circuit<'a> {
     pub nets: &'a [Net],

@@ -6,7 +6,7 @@ use units::refusals::{Layer, Refusal};
 
 #[derive(Clone, Copy, PartialEq, Eq, Debug)]
 pub enum TimingFault {
-    // the area, 1 to 4
+    // the area, 1 to 4, as the refusal names its place
     AreaTooShort(u8),
     // the lowest arc whose kind the model does not hold
     KindNotHeld(u16),

@@ -22,7 +22,7 @@ fn harder_of<S: Sense>(a: Option<i32>, b: Option<i32>) -> Option<i32>
     }
 }
 
-// A net's limit of the sense, as a required time.
+// A net's limit of the sense, one of two values, as a required time.
 pub fn limit_of<S: Sense>(net: Net) -> Option<i32>
     requires late { limit_of net.late_limit ≤ largest_limit }
     requires early { limit_of net.early_limit ≤ largest_limit }
@@ -43,7 +43,7 @@ fn required_over<M: DelayModel>(model: &M, arc: Arc, step: u8, required: &[i32])
 {
     let (delay, output_step) = ask(model, arc.kind, step);
     let time = figure(required[place(arc.head, output_step)])?;
-    Some(time.saturating_sub(delay as i32))
+    figure(time.saturating_sub(delay as i32))
 }
 
 // Takes what an arc out of the net requires into the net's row. The row holds the area's numbers: the pass is slower with

@@ -9,6 +9,7 @@ pub enum Layer {
     Reader,
 }
 
+// Each fault turns into one by `From`, with a match over its own rows.
 #[derive(Clone, Copy, PartialEq, Eq, Debug)]
 pub struct Refusal {
     pub layer: Layer,

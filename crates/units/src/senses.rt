@@ -4,7 +4,7 @@ ghost use Rattle.std.proofs.Common.{inl, inr};
 ghost use Rattle.units.specs.Senses.{Order, Lawful, late_order, early_order};
 ghost use Rattle.units.specs.Laws.{late_lawful, early_lawful};
 
-// What a sense compares: steps and times, which are never negative, and required times.
+// What a sense compares: times, which are never negative, and required times; each has a number of its own.
 pub trait Figure: Copy {
     ghost value: { Self → ℤ };
 

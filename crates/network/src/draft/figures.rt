@@ -1,4 +1,4 @@
-// The tests of a launch and of a limit: refusal 12.
+// The tests of a launch and of a limit, each with rows of its own: refusal 12.
 ghost use Rattle.units.specs.Refusals.{Outcome};
 ghost use Rattle.network.specs.Faults.{refusal_of};
 ghost use Rattle.network.specs.Figures.{launch_rows, limit_rows, LaunchFits, LimitFits};
