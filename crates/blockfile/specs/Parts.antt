@@ -46,13 +46,23 @@ PartsFit (records.Net launch transition late early) = (length launch.now ≤ 4) 
 PartsFit (records.Arc tail head kind) = (length tail.now ≤ 2) × (length head.now ≤ 2) × (length kind.now ≤ 1)
 PartsFit (records.Kind points) = length points.now ≤ point_len * map_bits
 
--- a record that was read goes on past its place, within the file
+-- the bytes before the fields: the tag and the map
+abbrev pub header_len : ℕ
+header_len = 2
+
+-- the bytes of the parts of a record
+abbrev pub parts_len : Record → ℕ
+parts_len (records.Net launch transition late early) = length launch.now + length transition.now + length late.now + length early.now
+parts_len (records.Arc tail head kind) = length tail.now + length head.now + length kind.now
+parts_len (records.Kind points) = length points.now
+
+-- a record that was read goes on past its place, by its header and its parts, within the file
 abbrev pub Advances : ℕ → ℕ → Result (Record × ℕ) ReaderFault → Type 0
-Advances len at (Ok p) = PartsFit p.0 × (at < p.1) × (p.1 ≤ len)
+Advances len at (Ok p) = PartsFit p.0 × (at < p.1) × (p.1 ≤ len) × (p.1 ≡ at + header_len + parts_len p.0)
 Advances len at (Err f) = Unit {0}
 
--- the record at the place that was reached, with its offset, or why it is refused; nothing comes after that, or at the end of the file
+-- the record at the place that was reached, with its offset, the next right after it; or why it is refused: nothing comes after that, or at the end of the file
 abbrev pub NextRecord : Records → Option (Result (ℕ × Record) LoadFault) → Records → Type 0
 NextRecord before None after = (length before.file.now ≤ before.at) × (after ≡ before)
-NextRecord before (Some (Ok item)) after = (item.0 ≡ before.at) × PartsFit item.1 × (before.at < after.at) × (after.at ≤ length after.file.now) × (after.file ≡ before.file)
+NextRecord before (Some (Ok item)) after = (item.0 ≡ before.at) × PartsFit item.1 × (before.at < after.at) × (after.at ≤ length after.file.now) × (after.file ≡ before.file) × (after.at ≡ before.at + header_len + parts_len item.1)
 NextRecord before (Some (Err fault)) after = (fault.offset ≡ before.at) × (before.at < length before.file.now) × (after.at ≡ length after.file.now) × (after.file ≡ before.file)

@@ -1,50 +1,75 @@
 // The fields that a record may have, and their values. An absent field has none.
-ghost use Rattle.std.specs.Prelude.{◌≡◌, ◌%◌, ◌/◌, ◌^◌, ◌<◌, ◌==◌};
+ghost use Rattle.std.specs.Prelude.{◌≡◌, ◌%◌, ◌/◌, ◌<◌, ◌==◌};
 ghost use Rattle.blockfile.specs.Parts.{field_len};
 
-use crate::records::POINT_LEN;
+use crate::records::{
+    ARC_MAPS, EARLY_LIMIT_BIT, HEAD_BIT, KIND_BIT, KIND_NUMBER_LEN, LATE_LIMIT_BIT, LAUNCH_BIT,
+    LAUNCH_LEN, LIMIT_LEN, NET_MAPS, NET_NUMBER_LEN, POINT_LEN, TAIL_BIT, TRANSITION_BIT,
+    TRANSITION_LEN,
+};
 use models::point::Point;
 use paths::blocks::{Launch, Net};
 
-// A field of a fixed length, and the number of the bit that announces it.
+// A field of a fixed length, and the bit that announces it.
 #[derive(Clone, Copy)]
 pub struct Field {
-    bit: u32,
+    bit: u8,
     len: usize,
-    ghost bit_fits: { bit < 8 },
+    ghost bit_fits: { 0 < bit },
 }
 
 // The fields of a net, and the bits that they have.
-pub const LAUNCH: Field = Field { bit: 0, len: 4 };
+pub const LAUNCH: Field = Field {
+    bit: LAUNCH_BIT,
+    len: LAUNCH_LEN,
+};
 
-pub const TRANSITION: Field = Field { bit: 1, len: 2 };
+pub const TRANSITION: Field = Field {
+    bit: TRANSITION_BIT,
+    len: TRANSITION_LEN,
+};
 
-pub const LATE_LIMIT: Field = Field { bit: 2, len: 4 };
+pub const LATE_LIMIT: Field = Field {
+    bit: LATE_LIMIT_BIT,
+    len: LIMIT_LEN,
+};
 
-pub const EARLY_LIMIT: Field = Field { bit: 3, len: 4 };
+pub const EARLY_LIMIT: Field = Field {
+    bit: EARLY_LIMIT_BIT,
+    len: LIMIT_LEN,
+};
 
-pub const NET_BITS: u8 = 0b1111;
+pub const NET_BITS: u8 = NET_MAPS - 1;
 
 // The same of an arc.
-pub const TAIL: Field = Field { bit: 0, len: 2 };
+pub const TAIL: Field = Field {
+    bit: TAIL_BIT,
+    len: NET_NUMBER_LEN,
+};
 
-pub const HEAD: Field = Field { bit: 1, len: 2 };
+pub const HEAD: Field = Field {
+    bit: HEAD_BIT,
+    len: NET_NUMBER_LEN,
+};
 
-pub const KIND: Field = Field { bit: 2, len: 1 };
+pub const KIND: Field = Field {
+    bit: KIND_BIT,
+    len: KIND_NUMBER_LEN,
+};
 
-pub const ARC_BITS: u8 = 0b111;
+pub const ARC_BITS: u8 = ARC_MAPS - 1;
 
 impl Field {
     // Whether a map announces the field.
     pub fn is_in(self, map: u8) -> bool
-        ensures { result ≡ (map / 2 ^ self.bit % 2 == 1) }
+        ensures { result ≡ (map / self.bit % 2 == 1) }
     {
-        map >> self.bit & 1 == 1
+        map / self.bit % 2 == 1
     }
 
     // The bytes of the field under a map: none where it is absent.
     pub fn len_in(self, map: u8) -> usize
-        ensures { result ≡ field_len map (2 ^ self.bit) self.len }
+        ensures { result ≡ field_len map self.bit self.len }
     {
         if self.is_in(map) { self.len } else { 0 }
     }

@@ -20,10 +20,8 @@ fn test_figures(net: &Net) -> Result<(), DraftFault> {
     net.launch.map_or(Ok(()), |launch| {
         test_launch(launch.time, launch.transition)
     })?;
-    [net.late_limit, net.early_limit]
-        .into_iter()
-        .flatten()
-        .try_for_each(test_limit)
+    net.late_limit.map_or(Ok(()), test_limit)?;
+    net.early_limit.map_or(Ok(()), test_limit)
 }
 
 // Adds a net with its launch and limits, whole or not at all: after these tests none of the draft's calls refuses.

@@ -1,7 +1,7 @@
 // Reading the records of a file one by one: tag, map, and the fields that the map announces.
 ghost use Rattle.std.specs.Prelude.{◌≡◌, ◌-◌, length};
 ghost use Rattle.std.specs.Iterator.{at_most};
-ghost use Rattle.blockfile.specs.Parts.{fields_len, PartsFit, Advances, NextRecord};
+ghost use Rattle.blockfile.specs.Parts.{fields_len, parts_len, PartsFit, Advances, NextRecord};
 
 use crate::faults::{LoadFault, ReaderFault};
 use crate::fields::{
@@ -54,7 +54,8 @@ impl Header {
     // The record of these fields, cut apart.
     fn cut<'a>(self, fields: &'a [u8]) -> Record<'a>
         requires { length fields.now ≡ fields_len self.tag self.map }
-        ensures { PartsFit result }
+        ensures fit { PartsFit result }
+        ensures whole { parts_len result ≡ length fields.now }
     {
         let Header { tag, map } = self;
         match tag {

@@ -7,7 +7,44 @@ use crate::faults::ReaderFault;
 // The bytes before the fields: the tag and the map.
 pub const HEADER_LEN: usize = 2;
 
-// The bytes of a point.
+// The tag of each sort of record.
+pub const NET_TAG: u8 = 1;
+
+pub const ARC_TAG: u8 = 2;
+
+pub const KIND_TAG: u8 = 3;
+
+// The bits of a net's map, and the first number past its maps.
+pub const LAUNCH_BIT: u8 = 1;
+
+pub const TRANSITION_BIT: u8 = 2;
+
+pub const LATE_LIMIT_BIT: u8 = 4;
+
+pub const EARLY_LIMIT_BIT: u8 = 8;
+
+pub const NET_MAPS: u8 = 16;
+
+// The same of an arc's map.
+pub const TAIL_BIT: u8 = 1;
+
+pub const HEAD_BIT: u8 = 2;
+
+pub const KIND_BIT: u8 = 4;
+
+pub const ARC_MAPS: u8 = 8;
+
+// The bytes of each field.
+pub const LAUNCH_LEN: usize = 4;
+
+pub const TRANSITION_LEN: usize = 2;
+
+pub const LIMIT_LEN: usize = 4;
+
+pub const NET_NUMBER_LEN: usize = 2;
+
+pub const KIND_NUMBER_LEN: usize = 1;
+
 pub const POINT_LEN: usize = 4;
 
 // The most points of a kind: one for each bit of its map.
@@ -28,9 +65,9 @@ impl TryFrom<u8> for Tag {
 
     fn try_from(byte: u8) -> Result<Tag, ReaderFault> {
         match byte {
-            1 => Ok(Tag::Net),
-            2 => Ok(Tag::Arc),
-            3 => Ok(Tag::Kind),
+            NET_TAG => Ok(Tag::Net),
+            ARC_TAG => Ok(Tag::Arc),
+            KIND_TAG => Ok(Tag::Kind),
             _ => Err(ReaderFault::UnknownTag(byte)),
         }
     }

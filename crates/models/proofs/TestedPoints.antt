@@ -13,11 +13,11 @@ use Rattle.models.specs.PointRows.{step_not_above, delay_falls, output_step_fall
 
 -- a table that begins with the rows of a test
 
-rows_pass : (start : ℕ) (test : Point → Point → Bool) (number : ℕ) (ps : List Point) → NoneFails start test ps → first (rows_from start test number ps) ≡ None
+pub rows_pass : (start : ℕ) (test : Point → Point → Bool) (number : ℕ) (ps : List Point) → NoneFails start test ps → first (rows_from start test number ps) ≡ None
 rows_pass start test number ps none =
     none_holds (fails_at test ps) (model_refusal number) start (length ps - start) (λ i l u. none i l (omega arith))
 
-rows_fail : (start : ℕ) (test : Point → Point → Bool) (number : ℕ) (ps : List Point) (i : ℕ) → FirstFails start test ps i → first (rows_from start test number ps) ≡ Some (model_refusal number i)
+pub rows_fail : (start : ℕ) (test : Point → Point → Bool) (number : ℕ) (ps : List Point) (i : ℕ) → FirstFails start test ps i → first (rows_from start test number ps) ≡ Some (model_refusal number i)
 rows_fail start test number ps i found =
     first_holds (fails_at test ps) (model_refusal number) start (length ps - start) i found.from_start (omega (arith, found.from_start, found.within)) found.here found.not_before
 

@@ -2,11 +2,12 @@
 ghost use Rattle.std.specs.Prelude.{◌≡◌, ℕ, refl};
 ghost use Rattle.models.specs.Calls.{fixed_in, FixedAdded};
 ghost use Rattle.models.specs.FixedKinds.{figures_of};
-ghost use Rattle.models.specs.Kinds.{fixed_figures};
+ghost use Rattle.models.specs.Kinds.{fixed_figures, fixed_meaning};
 ghost use Rattle.models.specs.Meanings.{fixed_kind_lawful};
 
 mod kind;
 
+use crate::delay_model::DelayModel;
 use crate::faults::ModelFault;
 use crate::kinds::{Kind, Kinds};
 use kind::FixedKind;
@@ -35,7 +36,8 @@ pub type Fixed = Kinds<FixedKind>;
 impl Fixed {
     // One kind more; answers its number.
     pub fn add(&mut self, delay: u16, output_step: u8) -> Result<u8, ModelFault>
-        ensures { FixedAdded (fixed_in self.old) delay output_step result (fixed_in self.new) }
+        ensures added { FixedAdded (fixed_in self.old) delay output_step result (fixed_in self.new) }
+        ensures means { ⟦<Fixed as DelayModel>⟧.meaning self.new ≡ fixed_meaning (fixed_in self.new) }
     {
         let number = self.next_number()?;
         if output_step > LAST_STEP {

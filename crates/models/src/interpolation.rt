@@ -27,7 +27,11 @@ fn reaching(points: &[Point], step: u8) -> usize
     requires step { step ≤ last_step }
     ensures { Reaches points.now step result }
 {
-    points.partition_point(|point| point.step < step).max(1)
+    let last = points.len() - 1;
+    match points[1..last].iter().position(|point| point.step >= step) {
+        Some(i) => i + 1,
+        None => last,
+    }
 }
 
 // The delay and the output step at a step.

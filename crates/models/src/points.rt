@@ -1,8 +1,10 @@
 // A model whose kinds are given by points.
 ghost use Rattle.std.specs.Prelude.{◌≡◌, ◌<◌, ◌≤◌, [], length, MatchOption, slice_index_or};
 ghost use Rattle.models.specs.Calls.{kinds_in, PointsAdded};
+ghost use Rattle.models.specs.Kinds.{points_meaning};
 
 use crate::curve::Curve;
+use crate::delay_model::DelayModel;
 use crate::faults::ModelFault;
 use crate::kinds::Kinds;
 use crate::point::Point;
@@ -12,7 +14,8 @@ pub type Points = Kinds<Curve>;
 impl Points {
     // One kind more; answers its number.
     pub fn add(&mut self, points: &[Point]) -> Result<u8, ModelFault>
-        ensures { PointsAdded (kinds_in self.old) points.now result (kinds_in self.new) }
+        ensures added { PointsAdded (kinds_in self.old) points.now result (kinds_in self.new) }
+        ensures means { ⟦<Points as DelayModel>⟧.meaning self.new ≡ points_meaning (kinds_in self.new) }
     {
         let number = self.next_number()?;
         self.push(Curve::new(points)?);

@@ -1,6 +1,8 @@
 pub mod Counting
 pub mod EndCounts
 pub mod FanOuts
+pub mod Growth
+pub mod OrderEntries
 pub mod Releasing
 pub mod SettledFacts
 pub mod SortingSteps

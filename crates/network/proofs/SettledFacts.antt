@@ -7,7 +7,7 @@ use Rattle.paths.specs.Orders.{Placed, Unplaced, Numbers, Whole, LowestUnplaced,
 use Rattle.paths.proofs.TakingOff.{left_is_reachable, cycle_at}
 use Rattle.network.specs.declared.settled.Network.{Network}
 use Rattle.network.specs.Settling.{network_block, Settled}
-use Rattle.network.specs.Sorting.{placed_nets}
+use Rattle.network.specs.Sorting.{order_nets, placed_nets}
 
 lowest_of : (nets : ℕ) (order : List ℕ) (o : Option ℕ) → (o ≡ None → Whole nets order) → ((n : ℕ) → o ≡ Some n → (n < nets) × Unplaced order n) → ((n k : ℕ) → o ≡ Some n → k < n → Placed order k) → LowestUnplaced nets order o
 lowest_of nets order None whole left below = whole refl
@@ -15,10 +15,10 @@ lowest_of nets order (Some n) whole left below = ((left n refl).0, (left n refl)
 
 module _ (n : Network) where
   length_placed : length (placed_nets n.order) ≡ n.order.placed
-  length_placed = length-take-le n.order.placed n.order.nets.items n.order.within
+  length_placed = length-take-le n.order.placed (order_nets n.order) n.order.within
 
   placed_numbers : Numbers (length (vec_items n.netlist.nets)) (placed_nets n.order)
-  placed_numbers k lt = let few = length_placed in let same = get_or-take n.order.placed n.order.nets.items k 0 (omega arith) in let number = n.numbers k (omega arith) in omega arith
+  placed_numbers k lt = let few = length_placed in let same = get_or-take n.order.placed (order_nets n.order) k 0 (omega arith) in let number = n.numbers k (omega arith) in omega arith
 
   off : TakenOff (length (vec_items n.netlist.nets)) (vec_items n.netlist.arcs) (placed_nets n.order)
   off = record { numbers = placed_numbers; once = n.once; tails_first = n.tails_first; none_can_be_placed = n.none_can_be_placed }

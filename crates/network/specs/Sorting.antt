@@ -5,8 +5,12 @@ use Rattle.paths.specs.Blocks.{tail_of, head_of}
 use Rattle.paths.specs.Orders.{place_of, Placed, Unplaced, Numbers, Once, TailsFirst}
 use Rattle.network.specs.declared.order.Order.{Order}
 
+-- the nets of an order, and of these the ones that are placed
+abbrev pub order_nets : Order → List ℕ
+order_nets o = take o.count o.nets
+
 abbrev pub placed_nets : Order → List ℕ
-placed_nets o = take o.placed o.nets.items
+placed_nets o = take o.placed (order_nets o)
 
 abbrev pub one_if : Bool → ℕ
 one_if true = 1

@@ -4,7 +4,7 @@ ghost use Rattle.paths.specs.Blocks.{max_nets};
 ghost use Rattle.paths.specs.Cycles.{TakenOff};
 ghost use Rattle.paths.specs.Orders.{Numbers, LowestUnplaced};
 ghost use Rattle.network.specs.FanOuts.{FansOut};
-ghost use Rattle.network.specs.Sorting.{placed_nets, zeros, SourcesPlaced, Sorting, LowestPending};
+ghost use Rattle.network.specs.Sorting.{order_nets, placed_nets, zeros, SourcesPlaced, Sorting, LowestPending};
 
 use crate::counts::counts_by;
 use crate::fan_out::FanOut;
@@ -17,8 +17,8 @@ impl Netlist {
     // The nets in topological order, and the lowest that has no place in it: the lowest on a cycle or reachable from one.
     pub(crate) fn topological_order(&self, fan_out: &FanOut) -> (Order, Option<u16>)
         requires { FansOut self.now.arcs.items fan_out.now }
-        ensures long { length result.0.nets.items ≡ length self.now.nets.items }
-        ensures numbers { Numbers (length self.now.nets.items) result.0.nets.items }
+        ensures long { length (order_nets result.0) ≡ length self.now.nets.items }
+        ensures numbers { Numbers (length self.now.nets.items) (order_nets result.0) }
         ensures off { TakenOff (length self.now.nets.items) self.now.arcs.items (placed_nets result.0) }
         ensures lowest { LowestUnplaced (length self.now.nets.items) (placed_nets result.0) result.1 }
         ensures all_placed { result.1 ≡ None → result.0.placed ≡ length self.now.nets.items }
@@ -32,13 +32,7 @@ impl Netlist {
             self.release_heads(fan_out, at, pending, &mut order);
             at += 1;
         }
-        let placed = order.len();
-        append_unplaced(pending, &mut order);
-        let order = Order {
-            nets: order,
-            placed,
-        };
-        (order, lowest_unplaced(pending))
+        (Order::of(&order, pending.len()), lowest_unplaced(pending))
     }
 
     // Counts the arcs out of the net at a place off at their heads, and places each head that waits for no more.
@@ -80,23 +74,6 @@ fn sources(pending: &[u16]) -> ArrayVec<u16, MAX_NETS>
         }
     }
     order
-}
-
-// Appends the nets that still wait for an arc into them, in rising number. One function for these and for the sources,
-// given the test, would have to say by an existential what room it needs.
-fn append_unplaced(pending: &[u16], order: &mut ArrayVec<u16, MAX_NETS>)
-    requires few { length pending.now ≤ max_nets }
-    requires full { length order.old.items ≡ zeros pending.now (length pending.now) }
-    requires numbers { Numbers (length pending.now) order.old.items }
-    ensures front { take (length order.old.items) order.new.items ≡ order.old.items }
-    ensures long { length order.new.items ≡ length pending.now }
-    ensures numbers { Numbers (length pending.now) order.new.items }
-{
-    for (net, &waiting) in pending.iter().enumerate() {
-        if waiting > 0 {
-            order.push(net as u16);
-        }
-    }
 }
 
 // The lowest net that still waits for an arc into it.

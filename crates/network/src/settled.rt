@@ -4,7 +4,7 @@ ghost use Rattle.paths.specs.Blocks.{max_nets, max_arcs, block, Joined, KindsFit
 ghost use Rattle.paths.specs.Cycles.{NoneCanBePlaced, CycleAt, LeftIsReachable};
 ghost use Rattle.paths.specs.Orders.{Placed, Unplaced, Numbers, Once, TailsFirst, Whole, TopologicalOrder};
 ghost use Rattle.network.specs.FanOuts.{FansOut};
-ghost use Rattle.network.specs.Sorting.{placed_nets};
+ghost use Rattle.network.specs.Sorting.{order_nets, placed_nets};
 
 use crate::fan_out::FanOut;
 use crate::netlist::Netlist;
@@ -19,8 +19,8 @@ pub struct Network {
     pub(crate) order: Order,
     pub(crate) cycle: Option<u16>,
     pub(crate) fan_out: FanOut,
-    ghost long: { length order.nets.items ≡ length netlist.nets.items },
-    ghost numbers: { Numbers (length netlist.nets.items) order.nets.items },
+    ghost long: { length (order_nets order) ≡ length netlist.nets.items },
+    ghost numbers: { Numbers (length netlist.nets.items) (order_nets order) },
     ghost once: { Once (placed_nets order) },
     ghost tails_first: { TailsFirst netlist.arcs.items (placed_nets order) },
     ghost none_can_be_placed: { NoneCanBePlaced (length netlist.nets.items) netlist.arcs.items (placed_nets order) },
@@ -54,7 +54,7 @@ impl Network {
 
     // Every net: first those that `placed` lends.
     pub fn order(&self) -> &[u16]
-        ensures value { result.now ≡ self.now.order.nets.items }
+        ensures value { result.now ≡ order_nets self.now.order }
         ensures len { length result.now ≡ length self.now.netlist.nets.items }
         ensures numbers { (k : ℕ) → k < length result.now → slice_index result.now k < length self.now.netlist.nets.items }
     {

@@ -37,6 +37,11 @@ pub record OverBelow (m : Meaning) (o : Order) (R : RequiredTable) (arc : Arc) (
   pub left : (s : ℕ) → k ≤ s → get_or is s (pos 0) ≡ get_or was s (pos 0)
 
 module _ (m : Meaning) (o : Order) (R : RequiredTable) (arc : Arc) (was : List ℤ) where
+  -- before the first step the row is as it was
+  pub over_none : OverBelow m o R arc 0 was was
+  over_none = record { long = refl; done = λ s h. absurd (omega arith); left = λ s h. refl }
+
+  -- one step more
   pub over_more : (k : ℕ) (is : List ℤ) (w : ℤ) → k < length is → HarderOf o (figure (get_or is k (pos 0))) (required_over m R arc k) (figure w) → OverBelow m o R arc k was is → OverBelow m o R arc (k + 1) was (set is k w)
   over_more k is w within harder O = record {
     long = length-set is k w ∙ O.long;
@@ -54,6 +59,10 @@ module _ (m : Meaning) (o : Order) (R : RequiredTable) (arc : Arc) (was : List �
       here =
           subst (λ (z : ℤ). HarderOf o (figure (get_or was k (pos 0))) (required_over m R arc k) (figure z)) (sym (get_or-set_same is k w (pos 0) within))
           (subst (λ (z : ℤ). HarderOf o (figure z) (required_over m R arc k) (figure w)) (O.left k (omega arith)) harder)
+
+  -- after the last step
+  pub over_all : (k : ℕ) (is : List ℤ) → step_count ≤ k → OverBelow m o R arc k was is → RowOver m o R arc was is
+  over_all k is h O s fits = O.done s (omega arith)
 
 -- the limit, or what an arc out of the net with a number below k requires
 abbrev pub RequiredBelow : Meaning → RequiredTable → List Arc → Option ℤ → ℕ → ℕ → ℕ → ℤ → Type 0

@@ -1,15 +1,15 @@
 -- Required times net by net, against the topological order. Assumes nothing.
-use Rattle.std.proofs.Common.{◌≡◌, ℕ, suc, ◌+◌, ◌-◌, ◌*◌, ◌<◌, ◌≤◌, Bool, true, false, cond, ltb, ◌⊎◌, List, reverse, length, get_or, ℤ, pos, ◌-ℤ◌, neg_ℤ, ◌≤ℤ◌, Some, None, Option, sym, ap, ◌∙◌, subst, inl, inr, arith}
+use Rattle.std.proofs.Common.{◌≡◌, ℕ, suc, ◌-◌, ◌*◌, ◌<◌, ◌≤◌, Bool, true, false, cond, ltb, ◌⊎◌, List, length, get_or, ℤ, pos, ◌-ℤ◌, neg_ℤ, ◌≤ℤ◌, Some, None, Option, sym, refl, ap, ◌∙◌, subst, inl, inr, arith}
 use native.Mathlib.Decide.{ℕ_discrete}
 use borrow.Rule.Slice.PartMut.{put_mid}
-use Rattle.std.proofs.lemmas.List.{get_or_past, get_or_read, get_or-reverse, length-reverse}
+use Rattle.std.proofs.lemmas.List.{get_or_past}
 use Rattle.std.proofs.lemmas.Int.{ints}
 use Rattle.std.proofs.lemmas.Bool.{cases_lt, le-ltb}
 use Rattle.units.specs.Senses.{Order}
 use Rattle.units.specs.Steps.{step_count, last_step}
 use Rattle.models.specs.Meaning.{Meaning, Lawful, max_delay}
 use Rattle.paths.specs.declared.blocks.Net.{Net}
-use Rattle.paths.specs.Blocks.{Block, block, max_nets, max_path, largest_limit, no_net, net_of, tail_of, head_of, kind_of, limit_of, Joined, LateLimitsFit, EarlyLimitsFit}
+use Rattle.paths.specs.Blocks.{Block, max_nets, max_path, largest_limit, no_net, net_of, tail_of, head_of, kind_of, limit_of, Joined, LateLimitsFit, EarlyLimitsFit}
 use Rattle.paths.specs.Orders.{place_of, TopologicalOrder}
 use Rattle.paths.specs.Slacks.{First, limit_at}
 use Rattle.paths.specs.ArcByArc.{RequiredTable, RequiredByArcs, RequiredByNets}
@@ -21,7 +21,6 @@ use Rattle.timing.specs.Areas.{figure, required_entry, required_in_area, Figures
 use Rattle.timing.specs.Passes.{Backward}
 use Rattle.timing.specs.RequiredRows.{AsHard, HeadsReady, RequiredRow}
 use Rattle.timing.proofs.AreaParts.{in_table}
-use Rattle.timing.proofs.Circuits.{OrderedCircuit, circuit_order}
 use Rattle.timing.proofs.HarderTimes.{first_same}
 use Rattle.timing.proofs.RowWrites.{RowWritten, row_written}
 
@@ -70,24 +69,9 @@ in_area nets required n s h fits = in_table nets n s (required_entry required n 
 outside : (nets : ℕ) (required : List ℤ) (n s : ℕ) → nets ≤ n → required_in_area nets required n s ≡ None
 outside nets required n s h = ap (λ (v : Bool). cond (cond v (ltb s step_count) false) (required_entry required n s) None) (le-ltb n nets h)
 
-module _ (circuit : OrderedCircuit) (m : Meaning) (law : Lawful m) (o : Order) where
-  abbrev b : Block
-  b = block circuit.nets.now circuit.arcs.now
-
+module _ (b : Block) (m : Meaning) (law : Lawful m) (o : Order) (order : List ℕ) (joined : Joined (length b.nets) b.arcs) (ordered : TopologicalOrder (length b.nets) b.arcs order) where
   abbrev nets : ℕ
   nets = length b.nets
-
-  abbrev order : List ℕ
-  order = circuit.order.now
-
-  ordered : TopologicalOrder nets b.arcs order
-  ordered = circuit_order circuit
-
-  joined : Joined nets b.arcs
-  joined = circuit.joined
-
-  few : nets ≤ max_nets
-  few = circuit.few.0
 
   -- tables that are the same at the heads of a net's arcs require the same of it
   required_same : (R R' : RequiredTable) (n s : ℕ) → ((i u : ℕ) → i < length b.arcs → tail_of b.arcs i ≡ n → u ≤ last_step → R (head_of b.arcs i) u ≡ R' (head_of b.arcs i) u) → (r : ℤ) → RequiredByArcs b m o R n s r → RequiredByArcs b m o R' n s r
@@ -122,14 +106,14 @@ module _ (circuit : OrderedCircuit) (m : Meaning) (law : Lawful m) (o : Order) w
     head_place : (i : ℕ) → i < length b.arcs → place_of order (head_of b.arcs i) < nets
     head_place i is-arc = let within = ordered.whole (head_of b.arcs i) (joined i is-arc).1 in omega (arith, ordered.long)
 
-    heads_ready_at : step_count * nets ≤ length mid → HeadsReady b.arcs net mid
-    heads_ready_at room = record {
+    heads_ready_at : nets ≤ max_nets → step_count * nets ≤ length mid → HeadsReady b.arcs net mid
+    heads_ready_at few room = record {
       room = λ i is-arc from. let within = (joined i is-arc).1 in omega arith;
       fits = λ i is-arc from s fits r e.
-          more_arcs (nets - suc (place_of order (head_of b.arcs i))) max_path r (omega (arith, few)) (done.range (head_of b.arcs i) s r (joined i is-arc).1 (head_done i is-arc from) fits e);
+          more_arcs (nets - suc (place_of order (head_of b.arcs i))) max_path r (omega arith) (done.range (head_of b.arcs i) s r (joined i is-arc).1 (head_done i is-arc from) fits e);
     }
 
-    module _ (row is : List ℤ) (required : RequiredRow b m o (required_entry mid) net row) (written : RowWritten net row mid is) where
+    module _ (row is : List ℤ) (limits : (n limit : ℕ) → limit_at b o n ≡ Some limit → limit ≤ largest_limit) (required : RequiredRow b m o (required_entry mid) net row) (written : RowWritten net row mid is) where
       -- a net further on is another, and is left as it was
       kept : (n s : ℕ) → suc p ≤ place_of order n → s ≤ last_step → required_entry is n s ≡ required_entry mid n s
       kept n s after fits = ap figure (written.other n s (λ e. let same : place_of order n ≡ p = ap (place_of order) e ∙ net_place in omega arith) fits)
@@ -154,7 +138,7 @@ module _ (circuit : OrderedCircuit) (m : Meaning) (law : Lawful m) (o : Order) w
       new_range s r fits e = go (first_is (AsHard o) (RequiredByArcs b m o (required_entry mid) net s) (figure (get_or row s (pos 0))) (required s fits) r (sym (here s fits) ∙ e))
         where
           go : RequiredByArcs b m o (required_entry mid) net s r → WithinArcs (nets - suc p) r
-          go (inl (limit, el, er)) = limit_within (nets - suc p) limit r (limit_fits b o circuit.lates circuit.earlies net limit el) er
+          go (inl (limit, el, er)) = limit_within (nets - suc p) limit r (limits net limit el) er
           go (inr (i, q, is-arc, from, eq, er)) =
               let kind = kind_of b.arcs i in
               let head = head_of b.arcs i in
@@ -184,39 +168,38 @@ module _ (circuit : OrderedCircuit) (m : Meaning) (law : Lawful m) (o : Order) w
         past = λ i h. (let within = net_within in written.past i (omega arith)) ∙ done.past i h;
       }
 
-  -- a turn of the loop, when `count` nets from the order's end on have their rows
-  module _ (count n : ℕ) (was mid : List ℤ) (lt : count < length (reverse order)) (is : n ≡ get_or (reverse order) count n) (done : RequiredFrom b m o order (length order - count) was mid) where
-    abbrev p : ℕ
-    p = length order - 1 - count
+  -- before the loop no net has its row
+  pub required_none : (required : List ℤ) → RequiredFrom b m o order (length order) required required
+  required_none required = record {
+    rows = λ n s within from-here fits. absurd (placed n within from-here);
+    range = λ n s r within from-here fits e. absurd (placed n within from-here);
+    past = λ i h. refl;
+  }
+    where
+      placed : (n : ℕ) → n < nets → ¬ (length order ≤ place_of order n)
+      placed n within h = let lt = ordered.whole n within in omega arith
 
-    back : length order - count ≡ suc p
-    back = omega (arith, length-reverse order)
+  -- a turn of the loop, at the place before p
+  back_one : (p : ℕ) → 0 < p → suc (p - 1) ≡ p
+  back_one p h = omega arith
 
-    placed : p < nets
-    placed = omega (arith, length-reverse order, ordered.long)
+  -- the rows of the heads are ready
+  pub heads_ready : (p : ℕ) (was mid : List ℤ) → nets ≤ max_nets → 0 < p → p ≤ length order → step_count * nets ≤ length mid → RequiredFrom b m o order p was mid → HeadsReady b.arcs (get_or order (p - 1) 0) mid
+  heads_ready p was mid few h le room done =
+      heads_ready_at (p - 1) was mid (omega (arith, ordered.long)) (subst (λ (k : ℕ). RequiredFrom b m o order k was mid) (sym (back_one p h)) done) few room
 
-    turned : get_or order p 0 ≡ n
-    turned = sym (get_or_read order p n (omega (arith, length-reverse order)) (is ∙ get_or-reverse order count n (omega (arith, length-reverse order))) 0)
+  -- and the net gets its row
+  pub required_turn : (p count : ℕ) (was mid row row' : List ℤ) → LateLimitsFit b.nets → EarlyLimitsFit b.nets → 0 < p → p ≤ length order → step_count * nets ≤ length mid → count ≡ step_count → length row ≡ step_count → row' ≡ row → RequiredRow b m o (required_entry mid) (get_or order (p - 1) 0) row → RequiredFrom b m o order p was mid → RequiredFrom b m o order (p - 1) was (put_mid (step_count * get_or order (p - 1) 0) count mid row')
+  required_turn p count was mid row row' lates earlies h le room part long same required done =
+      let n = get_or order (p - 1) 0 in
+      let placed : p - 1 < nets = omega (arith, ordered.long) in
+      let within : n < nets = ordered.numbers (p - 1) (omega arith) in
+      subst (λ (v : List ℤ). RequiredFrom b m o order (p - 1) was (put_mid (step_count * n) count mid v)) (sym same)
+      (required_more (p - 1) was mid placed (subst (λ (k : ℕ). RequiredFrom b m o order k was mid) (sym (back_one p h)) done) row (put_mid (step_count * n) count mid row) (limit_fits b o lates earlies) required (row_written n count row mid part (omega arith) long))
 
-    done_here : RequiredFrom b m o order (suc p) was mid
-    done_here = subst (λ (k : ℕ). RequiredFrom b m o order k was mid) back done
-
-    pub heads_ready : step_count * nets ≤ length mid → HeadsReady b.arcs n mid
-    heads_ready room = subst (λ (k : ℕ). HeadsReady b.arcs k mid) turned (heads_ready_at p was mid placed done_here room)
-
-    pub required_turn : (k count' : ℕ) (row part : List ℤ) → step_count * nets ≤ length mid → k ≡ step_count → count' ≡ count + 1 → length row ≡ step_count → part ≡ row → RequiredRow b m o (required_entry mid) n row → RequiredFrom b m o order (length order - count') was (put_mid (step_count * n) k mid part)
-    required_turn k count' row part room part-long counted long same required =
-        let within = net_within p was mid placed done_here in
-        let next : p ≡ length order - count' = omega arith in
-        let done_more = required_more p was mid placed done_here row (put_mid (step_count * get_or order p 0) k mid row) (subst (λ (v : ℕ). RequiredRow b m o (required_entry mid) v row) (sym turned) required)
-        (row_written (get_or order p 0) k row mid part-long (omega arith) long) in
-        subst (λ (q : ℕ). RequiredFrom b m o order q was (put_mid (step_count * n) k mid part)) next
-        (subst (λ (v : List ℤ). RequiredFrom b m o order p was (put_mid (step_count * n) k mid v)) (sym same)
-        (subst (λ (v : ℕ). RequiredFrom b m o order p was (put_mid (step_count * v) k mid row)) turned done_more))
-
-  -- after the loop every net has
-  pub backward : (p : ℕ) (was is : List ℤ) → p ≤ 0 → RequiredFrom b m o order p was is → Backward b m o was is
-  backward p was is h done = record { by_nets = by_nets; range = range; past = done.past }
+  -- after the loop every net has its row
+  pub backward : (p : ℕ) (was is : List ℤ) → nets ≤ max_nets → p ≤ 0 → RequiredFrom b m o order p was is → Backward b m o was is
+  backward p was is few h done = record { by_nets = by_nets; range = range; past = done.past }
     where
       by_nets : RequiredByNets b m o (required_in_area nets is)
       by_nets n s fits = elim (cases_lt n nets) [
@@ -228,4 +211,4 @@ module _ (circuit : OrderedCircuit) (m : Meaning) (law : Lawful m) (o : Order) w
       ]
 
       range : (n s : ℕ) (r : ℤ) → n < nets → s ≤ last_step → required_entry is n s ≡ Some r → RequiredFits r
-      range n s r within fits e = more_arcs (nets - suc (place_of order n)) max_path r (omega (arith, few)) (done.range n s r within (omega arith) fits e)
+      range n s r within fits e = more_arcs (nets - suc (place_of order n)) max_path r (omega arith) (done.range n s r within (omega arith) fits e)

@@ -37,11 +37,18 @@ circuit_block c = block c.nets.now c.arcs.now
 pub circuit_order : (c : OrderedCircuit) → TopologicalOrder (length c.nets.now) c.arcs.now c.order.now
 circuit_order c = record { long = c.long; numbers = c.numbers; once = c.once; whole = c.whole; tails_first = c.tails_first }
 
+-- no arc leads from a net to itself
+abbrev pub NoSelfLoops : List Arc → Type 0
+NoSelfLoops arcs = (i : ℕ) → i < length arcs → tail_of arcs i ≢ head_of arcs i
+
 -- the head of an arc stands after the tail, so it is another net
+pub no_self_loops : (nets : ℕ) (arcs : List Arc) (order : List ℕ) → TopologicalOrder nets arcs order → NoSelfLoops arcs
+no_self_loops nets arcs order T i li e =
+    let same : place_of order (tail_of arcs i) ≡ place_of order (head_of arcs i) = ap (place_of order) e in
+    omega (arith, T.tails_first i li)
+
 pub circuit_apart : (c : OrderedCircuit) → (i : ℕ) → i < length c.arcs.now → tail_of c.arcs.now i ≢ head_of c.arcs.now i
-circuit_apart c i li e =
-    let same : place_of c.order.now (tail_of c.arcs.now i) ≡ place_of c.order.now (head_of c.arcs.now i) = ap (place_of c.order.now) e in
-    omega (arith, c.tails_first i li)
+circuit_apart c = no_self_loops (length c.nets.now) c.arcs.now c.order.now (circuit_order c)
 
 pub circuit_timeable : (c : OrderedCircuit) (m : Meaning) (o : Order) → models.Lawful m → senses.Lawful o → Timeable (circuit_block c) m o c.order.now
 circuit_timeable c m o model sense = record { model = model; sense = sense; ordered = circuit_order c }

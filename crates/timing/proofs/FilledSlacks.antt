@@ -1,5 +1,5 @@
 -- The slacks that are filled in net by net. Assumes nothing.
-use Rattle.std.proofs.Common.{◌≡◌, ℕ, ◌+◌, ◌<◌, ◌≤◌, ◌⊎◌, List, length, set, take, ℤ, pos, ◌≤ℤ◌, Some, None, Option, sym, refl, ap, ◌∙◌, subst, arith, w32, w64, to_z, of_z}
+use Rattle.std.proofs.Common.{◌≡◌, ℕ, ◌+◌, ◌<◌, ◌≤◌, ◌⊎◌, List, length, set, take, ℤ, pos, ◌≤ℤ◌, Some, None, Option, get_or, sym, refl, ap, ◌∙◌, subst, arith, w32, w64, to_z, of_z}
 use native.Mathlib.Decide.{ℕ_discrete}
 use Rattle.std.specs.Option.{MatchOption, IsSomeAnd}
 use Rattle.std.proofs.lemmas.Int.{to_z-of_z}
@@ -12,12 +12,12 @@ use Rattle.paths.specs.Ranges.{latest_time, RequiredFits}
 use Rattle.paths.proofs.Firsts.{first_is}
 use Rattle.std.proofs.lemmas.Option.{none-some, same_Some}
 use Rattle.timing.specs.declared.answers.SignalRecord.{SignalRecord}
-use Rattle.timing.specs.Areas.{record_at, held_by, held_in_area, figure, required_entry, required_in_area, slack_entry, entry_of}
-use Rattle.timing.specs.Passes.{LeastEntry}
+use Rattle.timing.specs.Areas.{place, record_at, held_by, held_in_area, figure, required_entry, required_in_area, slack_entry, entry_of, FiguresPast}
+use Rattle.timing.specs.Passes.{SlacksFilled, LeastEntry}
 use Rattle.timing.specs.SlackFigures.{slack_figure, slack_of_entries, LeastOfRow}
 use Rattle.timing.proofs.AreaParts.{in_table, table_inside}
 use Rattle.timing.proofs.Figures.{figure_above}
-use Rattle.timing.proofs.LeastFigures.{least_same}
+use Rattle.timing.proofs.LeastFigures.{FigureBelow, lesser_of, least_same, least_more}
 use Rattle.timing.proofs.SlackRanges.{WithinWidest, slack_within, within_fits, within_fits_wide, within_above}
 use Rattle.timing.proofs.TracedPaths.{held_is}
 
@@ -48,6 +48,20 @@ slack_entered (Some z) (Some v) r within cast e =
     let same : v ≡ z = cast ∙ ap (λ (x : ℤ). to_z w32 (of_z w32 x)) (to_z-of_z w64 z (within_fits_wide z range)) ∙ to_z-of_z w32 z (within_fits z range) in
     ap figure (e ∙ same) ∙ figure_above z (within_above z range)
 
+-- the slacks of the first nets are filled in, and the others are as they were
+pub record FilledBelow (o : Order) (nets : ℕ) (signals : List SignalRecord) (required : List ℤ) (k : ℕ) (was is : List ℤ) : Type 0 where
+  pub each : (n : ℕ) → n < k → Least (SlackHeld o (held_in_area nets signals) (required_in_area nets required) n) (slack_entry is n)
+  pub past : FiguresPast k was is
+
+-- the least slack of a net's first records, and of one record more
+pub row_more : (o : Order) (signals : List SignalRecord) (required : List ℤ) (n s : ℕ) (x y : Option ℤ) (entry r r' : ℤ) → Least (FigureBelow (slack_of_entries o signals required n) s) x → entry ≡ get_or required (place n s) (pos 0) → y ≡ slack_figure o (held_by (record_at signals n s)) (figure entry) → figure r ≡ lesser_of x y → r' ≡ r → Least (FigureBelow (slack_of_entries o signals required n) (s + 1)) (figure r')
+row_more o signals required n s x y entry r r' least e slack lesser same =
+    least_more (slack_of_entries o signals required n) s x y (figure r') least (slack ∙ ap (λ (z : ℤ). slack_figure o (held_by (record_at signals n s)) (figure z)) e) (ap figure same ∙ lesser)
+
+-- entries past the first nets stay as one net more is filled in
+pub past_more : (n : ℕ) (was slacks : List ℤ) (w : ℤ) → FiguresPast n was slacks → FiguresPast (n + 1) was (set slacks n w)
+past_more n was slacks w past i h = get_or-set_other slacks n i w (pos 0) (λ q. absurd (omega arith)) ∙ past i (omega arith)
+
 module _ (o : Order) (nets : ℕ) (signals : List SignalRecord) (required : List ℤ) where
   abbrev Held : ℕ → ℤ → Type 0
   Held n z = SlackHeld o (held_in_area nets signals) (required_in_area nets required) n z
@@ -77,6 +91,17 @@ module _ (o : Order) (nets : ℕ) (signals : List SignalRecord) (required : List
         (subst (Least (Held n)) (sym (ap figure (get_or-set_same slacks n w (pos 0) room) ∙ e)) (row_least n x h least))
     | no q ↦ subst (λ (v : ℤ). Least (Held k) (figure v)) (sym (get_or-set_other slacks n k w (pos 0) q)) (filled k (omega arith))
   ]
+
+  -- with the entries past the nets
+  pub below_more : (n : ℕ) (was slacks : List ℤ) (x : Option ℤ) (w : ℤ) → n < nets → n < length slacks → FilledBelow o nets signals required n was slacks → LeastOfRow o signals required n x → figure w ≡ x → FilledBelow o nets signals required (n + 1) was (set slacks n w)
+  below_more n was slacks x w h room filled least e = record { each = filled_more n slacks x w h room filled.each least e; past = past_more n was slacks w filled.past }
+
+  -- all nets
+  pub filled_all : (k : ℕ) (was is : List ℤ) → k ≡ nets → FilledBelow o nets signals required k was is → SlacksFilled o nets signals required was is
+  filled_all k was is e filled = record {
+    each = λ n h. filled.each n (omega arith);
+    past = λ i h. filled.past i (omega arith);
+  }
 
 -- the least entry of the front is the least of the area's first entries
 pub front_least : (nets : ℕ) (slacks : List ℤ) (z : Option ℤ) → nets ≤ length slacks → LeastEntry (length (take nets slacks)) (take nets slacks) z → LeastEntry nets slacks z

@@ -7,10 +7,11 @@ use Rattle.units.specs.Senses as senses
 use Rattle.units.specs.Steps.{step_count, last_step}
 use Rattle.models.specs.Meaning.{Meaning, max_delay}
 use Rattle.models.specs.Meaning as models
+use Rattle.paths.specs.declared.blocks.Arc.{Arc}
 use Rattle.paths.specs.declared.blocks.Launch.{Launch}
-use Rattle.paths.specs.Blocks.{Block, net_of, tail_of, head_of, kind_of, time_of, latest_launch}
+use Rattle.paths.specs.Blocks.{Block, Joined, TimesFit, net_of, tail_of, head_of, kind_of, time_of, latest_launch}
 use Rattle.paths.specs.Runs.{IsArc}
-use Rattle.paths.specs.Orders.{place_of}
+use Rattle.paths.specs.Orders.{place_of, TopologicalOrder}
 use Rattle.paths.specs.Signals.{Signal, Launches, carried, Covers}
 use Rattle.paths.proofs.Covering.{as_bad_refl, covers_refl, covers_transitive}
 use Rattle.paths.proofs.Places.{at_place}
@@ -18,10 +19,15 @@ use Rattle.timing.specs.declared.answers.SignalRecord.{SignalRecord}
 use Rattle.timing.specs.Areas.{no_signal}
 use Rattle.timing.specs.Passes.{launched_mark}
 use Rattle.timing.specs.Offers.{Records, AfterOffers, LaunchOffer, FanOutOffers, RowPruned, kept_record, signal_of, kept_below, carried_where, carried_out}
-use Rattle.timing.proofs.Circuits.{OrderedCircuit, circuit_block}
 use Rattle.timing.proofs.RowPruning.{turn_fits}
 use Rattle.timing.proofs.Offering.{same_or_offered, none_offered}
 use Rattle.timing.proofs.CarriedSums.{sum_added, kept_same}
+
+-- nets and arcs that are timed in an order
+pub record InOrder (b : Block) (order : List ℕ) : Type 0 where
+  pub joined : Joined (length b.nets) b.arcs
+  pub times : TimesFit b.nets
+  pub ordered : TopologicalOrder (length b.nets) b.arcs order
 
 -- The signal has come to the net when the first k nets of the order are done: it is the net's launch, or came over an arc from one of them.
 abbrev pub Came : Block → Meaning → Order → List ℕ → ℕ → Records → ℕ → Signal → ℕ → ℕ → Type 0
@@ -59,21 +65,15 @@ none_done b m o order was rows cleared rest =
     }
 
 -- two nets at one place of the order are the same
-one_net : (w : OrderedCircuit) (n h : ℕ) → n < length w.nets.now → h < length w.nets.now → place_of w.order.now n ≡ place_of w.order.now h → n ≡ h
-one_net w n h ln lh e =
-    sym (at_place w.order.now n (w.whole n ln)) ∙ ap (λ (p : ℕ). get_or w.order.now p 0) e ∙ at_place w.order.now h (w.whole h lh)
+pub one_net : (nets : ℕ) (arcs : List Arc) (order : List ℕ) → TopologicalOrder nets arcs order → (n h : ℕ) → n < nets → h < nets → place_of order n ≡ place_of order h → n ≡ h
+one_net nets arcs order T n h ln lh e =
+    sym (at_place order n (T.whole n ln)) ∙ ap (λ (p : ℕ). get_or order p 0) e ∙ at_place order h (T.whole h lh)
 
 launch_early : (launch : Option Launch) (l : Launch) → time_of launch ≤ latest_launch → launch ≡ Some l → l.time ≤ latest_launch
 launch_early launch l fits e = rw e at fits
 
 -- the row of the net gets its launch (from A to B) and is pruned (to C)
-module _ (w : OrderedCircuit) {m : Meaning} (M : models.Lawful m) {o : Order} (L : senses.Lawful o) {k n : ℕ} {was A B C : Records} (R : NetsDone (circuit_block w) m o w.order.now k was A) (ln : n < length w.nets.now) (at : place_of w.order.now n ≡ k) (S : AfterOffers o (LaunchOffer (net_of (circuit_block w) n).launch n) A B) (H : RowPruned o n step_count B C) where
-  abbrev b : Block
-  b = circuit_block w
-
-  abbrev order : List ℕ
-  order = w.order.now
-
+module _ {b : Block} {order : List ℕ} (G : InOrder b order) {m : Meaning} (M : models.Lawful m) {o : Order} (L : senses.Lawful o) {k n : ℕ} {was A B C : Records} (R : NetsDone b m o order k was A) (ln : n < length b.nets) (at : place_of order n ≡ k) (S : AfterOffers o (LaunchOffer (net_of b n).launch n) A B) (H : RowPruned o n step_count B C) where
   abbrev tail : ℕ → ℕ
   tail i = tail_of b.arcs i
 
@@ -112,7 +112,7 @@ module _ (w : OrderedCircuit) {m : Meaning} (M : models.Lawful m) {o : Order} (L
       elim (same_or_offered (S h s ls)) [
         | inl q ↦ rw q (R.times h s lh ls)
         | inr p ↦ (let (l, eh, el, rounded, q) = p in
-            let early = launch_early (net_of b n).launch l (w.times n) el in
+            let early = launch_early (net_of b n).launch l (G.times n) el in
             rw q (omega arith))
       ]
 
@@ -138,7 +138,7 @@ module _ (w : OrderedCircuit) {m : Meaning} (M : models.Lawful m) {o : Order} (L
         none : (e : SignalRecord) → ¬ FanOutOffers m b.arcs n (length b.arcs) C h s e
         none e p =
             let (i, lt, t, q) = p in
-            let up = w.tails_first i lt in
+            let up = G.ordered.tails_first i lt in
             let et : place_of order (tail i) ≡ k = ap (place_of order) t ∙ at in
             let eh : place_of order h ≡ place_of order (head i) = ap (place_of order) q.2.0 in
             omega arith
@@ -162,7 +162,7 @@ module _ (w : OrderedCircuit) {m : Meaning} (M : models.Lawful m) {o : Order} (L
     comes_now h y i u lh (inl p) =
         elim (cases_lt (place_of order h) k) [
           | inl lt ↦ inl (inl (lt, p.1, p.2, p.3))
-          | inr ge ↦ inr (inl (let lt = p.0 in let e : h ≡ n = one_net w h n lh ln (omega arith) in (e, rw (← e) p.3)))
+          | inr ge ↦ inr (inl (let lt = p.0 in let e : h ≡ n = one_net _ _ order G.ordered h n lh ln (omega arith) in (e, rw (← e) p.3)))
         ]
     comes_now h y i u lh (inr p) =
         let (li, lu, lt, eh, kt, ey) = p in
@@ -173,7 +173,7 @@ module _ (w : OrderedCircuit) {m : Meaning} (M : models.Lawful m) {o : Order} (L
       where
         offered : i < length b.arcs → u ≤ last_step → place_of order (tail i) < k + 1 → k ≤ place_of order (tail i) → head i ≡ h → (D (tail i) u).kept ≡ true → y ≡ carried b m i (signal_of (D (tail i) u) u) → FanOutOffers m b.arcs n (length b.arcs) C h y.step (kept_record y.time i u)
         offered li lu lt ge eh kt ey =
-            let et : tail i ≡ n = one_net w (tail i) n (w.joined i li).0 ln (omega arith) in
+            let et : tail i ≡ n = one_net _ _ order G.ordered (tail i) n (G.joined i li).0 ln (omega arith) in
             let ec : D (tail i) u ≡ C (tail i) u = back_same (tail i) u lu (omega arith) in
             let ez : y ≡ carried b m i (signal_of (C (tail i) u) u) = rw ec at ey in
             (i, li, et, (u, omega arith, (sym eh, rw ec at kt, ap (λ (z : Signal). z.step) ez, ap (λ (z : Signal). kept_record z.time i u) ez)))
@@ -247,8 +247,8 @@ module _ (w : OrderedCircuit) {m : Meaning} (M : models.Lawful m) {o : Order} (L
           | inr p ↦ (let (i, li, et, q) = p in
               let (u, lu, z) = q in
               let eh : place_of order h ≡ place_of order (head i) = ap (place_of order) z.0 in
-              let before = time_pruned (tail i) u (w.joined i li).0 (omega arith) in
-              rw z.3 (omega (arith, w.tails_first i li, M.delay.fits (kind_of b.arcs i) u)))
+              let before = time_pruned (tail i) u (G.joined i li).0 (omega arith) in
+              rw z.3 (omega (arith, G.ordered.tails_first i li, M.delay.fits (kind_of b.arcs i) u)))
         ]
 
     blank_now : (h s : ℕ) → h < length b.nets → s ≤ last_step → (D h s).kept ≡ false → D h s ≡ no_signal
@@ -264,7 +264,7 @@ module _ (w : OrderedCircuit) {m : Meaning} (M : models.Lawful m) {o : Order} (L
               R.apart h s u lh before ls lu (rw es at ks) (rw eu at ku) (rw (es, eu) at c))
           | inr ge ↦ (let es = back_same h s ls (omega arith) in
               let eu = back_same h u lu (omega arith) in
-              let e : h ≡ n = one_net w h n lh ln (omega arith) in
+              let e : h ≡ n = one_net _ _ order G.ordered h n lh ln (omega arith) in
               H.apart s u ls lu (turn_fits o u lu) (rw (es, e) at ks) (rw (eu, e) at ku) (rw (es, eu, e) at c))
         ]
 
@@ -275,7 +275,7 @@ module _ (w : OrderedCircuit) {m : Meaning} (M : models.Lawful m) {o : Order} (L
         none : (e : SignalRecord) → ¬ FanOutOffers m b.arcs n (length b.arcs) C h s e
         none e p =
             let (i, lt, t, q) = p in
-            let lh = (w.joined i lt).1 in
+            let lh = (G.joined i lt).1 in
             let f : h ≡ head i = q.2.0 in
             omega arith
 
@@ -308,7 +308,7 @@ module _ (w : OrderedCircuit) {m : Meaning} (M : models.Lawful m) {o : Order} (L
         each i li =
             let t = tail i in
             elim (cases_order (place_of order t) k) [
-              | inl e ↦ (let q : t ≡ n = one_net w t n (w.joined i li).0 ln (e ∙ sym at) in
+              | inl e ↦ (let q : t ≡ n = one_net _ _ order G.ordered t n (G.joined i li).0 ln (e ∙ sym at) in
                   rw (le-ltb (place_of order t) k (omega arith), eq-eqb t n q, lt-ltb (place_of order t) (k + 1) (omega arith)) (zero-add _ ∙ kept_same D C t step_count (λ s ls. sym (back_same t s (omega arith) (omega arith)))))
               | inr (inl lt) ↦
                   rw (lt-ltb (place_of order t) k lt, ne_eqb t n (not_n t lt), lt-ltb (place_of order t) (k + 1) (omega arith)) (add-zero _ ∙ kept_same D A t step_count (λ s ls. sym (done_same t s (omega arith) lt)))

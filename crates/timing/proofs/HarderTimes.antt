@@ -1,5 +1,6 @@
 -- The hardest to meet of some required times, and of one more. Assumes nothing.
-use Rattle.std.proofs.Common.{◌≡◌, ◌⊎◌, ℤ, Some, None, Option, sym, refl, subst, inl, inr}
+use Rattle.std.proofs.Common.{◌≡◌, false, ◌⊎◌, ℤ, Some, None, Option, sym, refl, ap, ◌∙◌, subst, inl, inr}
+use mathlib.Core.Bool.{false≢true}
 use Rattle.units.specs.Senses.{Order, Lawful}
 use Rattle.paths.specs.Slacks.{First}
 use Rattle.paths.proofs.Covering.{as_bad_refl}
@@ -16,6 +17,13 @@ first_same Before Is Also into back (Some a) first = (into a first.0, λ z q. fi
 -- some figures, and the one more where there is one
 abbrev pub OrFigure : (ℤ → Type 0) → Option ℤ → ℤ → Type 0
 OrFigure Is more z = Is z ⊎ (more ≡ Some z)
+
+-- the second of two, where it is not as bad as the first
+pub harder_second : (o : Order) → Lawful o → (a b r : ℤ) → figure a ≡ Some a → figure b ≡ Some b → r ≡ b → o.as_bad b a ≡ false → HarderOf o (figure a) (figure b) (figure r)
+harder_second o law a b r ea eb er h =
+    subst (λ (x : Option ℤ). HarderOf o x (figure b) (figure r)) (sym ea)
+    (subst (λ (y : Option ℤ). HarderOf o (Some a) y (figure r)) (sym eb)
+    (inr (ap figure er ∙ eb, elim (law.total a b) [ inl p ↦ p | inr p ↦ absurd (false≢true (sym h ∙ p)) ])))
 
 -- the harder of an entry's figure and of one that has an entry has one
 pub harder_has_entry : (o : Order) (z : ℤ) (y r : Option ℤ) → HarderOf o (figure z) y r → HasEntry y → HasEntry r

@@ -16,10 +16,12 @@ above a b h = grind (arith, nat_tests)
 below : (a b : ℕ) → b < a → leb a b ≡ false
 below a b h = grind (arith, nat_tests)
 
-all_held : (count : ℕ) (arcs : List Arc) → KindsHeld count arcs → first (kind_rows count arcs) ≡ None
+-- where each kind is held no row holds
+pub all_held : (count : ℕ) (arcs : List Arc) → KindsHeld count arcs → first (kind_rows count arcs) ≡ None
 all_held count arcs held = none_holds (λ i. leb count (kind_of arcs i)) (λ i. timing_refusal 23 i) 0 (length arcs) (λ i _ lt. below count (kind_of arcs i) (held i (omega arith)))
 
-first_missing : (count : ℕ) (arcs : List Arc) (i : ℕ) → i < length arcs → count ≤ kind_of arcs i → ((j : ℕ) → j < i → kind_of arcs j < count) → first (kind_rows count arcs) ≡ Some (timing_refusal 23 i)
+-- the first row that holds is that of the first kind that is not
+pub first_missing : (count : ℕ) (arcs : List Arc) (i : ℕ) → i < length arcs → count ≤ kind_of arcs i → ((j : ℕ) → j < i → kind_of arcs j < count) → first (kind_rows count arcs) ≡ Some (timing_refusal 23 i)
 first_missing count arcs i lt missing before =
     first_holds (λ i. leb count (kind_of arcs i)) (λ i. timing_refusal 23 i) 0 (length arcs) i (omega arith) (omega arith) (above count (kind_of arcs i) missing) (λ j _ less. below count (kind_of arcs j) (before j less))
 

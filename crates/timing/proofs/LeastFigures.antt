@@ -1,5 +1,6 @@
--- The least of the figures that the items of a list give. Assumes nothing.
-use Rattle.std.proofs.Common.{◌≡◌, ℕ, zero, suc, ◌<◌, Bool, true, false, cond, ◌⊎◌, List, [], ◌∷◌, length, get_or, ℤ, ◌≤ℤ◌, Some, None, Option, sym, refl, ap, ◌∙◌, subst, inl, inr, arith}
+-- The least of the figures that the first places hold, and of those that the items of a list give. Assumes nothing.
+use Rattle.std.proofs.Common.{◌≡◌, ℕ, zero, suc, ◌+◌, ◌<◌, Bool, true, false, cond, ◌⊎◌, List, [], ◌∷◌, length, get_or, ℤ, ◌≤ℤ◌, Some, None, Option, sym, refl, ap, ◌∙◌, subst, inl, inr, arith}
+use native.Mathlib.Decide.{ℕ_discrete}
 use lib.Signed.{lt_z}
 use Rattle.std.specs.declared.cmp.Ordering.TheVariants.{Less, Equal, Greater}
 use Rattle.std.specs.Ordering.{int_cmp, min_by_ordering}
@@ -20,18 +21,65 @@ least_same Is Also into back x least = least_moved Is Also into (λ z q. (z, bac
 abbrev pub lesser : ℤ → ℤ → ℤ
 lesser a z = min_by_ordering (int_cmp a z) a z
 
+-- of two figures, where there are any
+abbrev pub lesser_of : Option ℤ → Option ℤ → Option ℤ
+lesser_of None z = z
+lesser_of (Some a) None = Some a
+lesser_of (Some a) (Some z) = Some (lesser a z)
+
 -- the lesser of the least and of one more figure is the least of all of them
-least_with : (Is : ℤ → Type 0) (a z : ℤ) → Least Is (Some a) → Least (OrOneMore Is z) (Some (lesser a z))
-least_with Is a z least = go (lt_z a z) refl (lt_z z a) refl
+pub least_with : (Is : ℤ → Type 0) (x : Option ℤ) (z : ℤ) → Least Is x → Least (OrOneMore Is z) (lesser_of x (Some z))
+least_with Is None z least = first_takes ◌≤ℤ◌ Is z ≤ℤ-transitive (omega (arith, ints)) None least (λ a e. absurd (none-some a e))
+least_with Is (Some a) z least = go (lt_z a z) refl (lt_z z a) refl
   where
     go : (p : Bool) → lt_z a z ≡ p → (q : Bool) → lt_z z a ≡ q → Least (OrOneMore Is z) (Some (min_by_ordering (cond p Less (cond q Greater Equal)) a z))
     go true ep q eq = first_keeps ◌≤ℤ◌ Is a z least (grind (arith, ints))
     go false ep false eq = first_keeps ◌≤ℤ◌ Is a z least (grind (arith, ints))
     go false ep true eq = let h : z ≤ℤ a = grind (arith, ints) in first_takes ◌≤ℤ◌ Is z ≤ℤ-transitive (omega (arith, ints)) (Some a) least (λ c e. subst (λ (w : ℤ). z ≤ℤ w) (same_Some a c e) h)
 
+-- one of the first places holds the figure
+abbrev pub FigureBelow : (ℕ → Option ℤ) → ℕ → ℤ → Type 0
+FigureBelow figures k z = (i : ℕ) × (i < k) × (figures i ≡ Some z)
+
+module _ (figures : ℕ → Option ℤ) (k : ℕ) where
+  with_figure : (x : Option ℤ) (y : Option ℤ) → y ≡ figures k → Least (FigureBelow figures k) x → Least (FigureBelow figures (k + 1)) (lesser_of x y)
+  with_figure x (Some z) e least = least_same (OrOneMore (FigureBelow figures k) z) (FigureBelow figures (k + 1)) into back (lesser_of x (Some z)) (least_with (FigureBelow figures k) x z least)
+    where
+      into : (w : ℤ) → OrOneMore (FigureBelow figures k) z w → FigureBelow figures (k + 1) w
+      into w (inl (i, h, q)) = (i, omega arith, q)
+      into w (inr q) = (k, omega arith, sym e ∙ ap Some (sym q))
+
+      back : (w : ℤ) → FigureBelow figures (k + 1) w → OrOneMore (FigureBelow figures k) z w
+      back w (i, h, q) = elim (ℕ_discrete i k) [
+        | yes p ↦ inr (same_Some w z (sym q ∙ ap figures p ∙ sym e))
+        | no p ↦ inl (i, omega arith, q)
+      ]
+  with_figure x None e least = subst (Least (FigureBelow figures (k + 1))) (none_added x) (least_same (FigureBelow figures k) (FigureBelow figures (k + 1)) into back x least)
+    where
+      none_added : (v : Option ℤ) → v ≡ lesser_of v None
+      none_added None = refl
+      none_added (Some a) = refl
+
+      into : (w : ℤ) → FigureBelow figures k w → FigureBelow figures (k + 1) w
+      into w (i, h, q) = (i, omega arith, q)
+
+      back : (w : ℤ) → FigureBelow figures (k + 1) w → FigureBelow figures k w
+      back w (i, h, q) = elim (ℕ_discrete i k) [
+        | yes p ↦ absurd (none-some w (e ∙ ap figures (sym p) ∙ q))
+        | no p ↦ (i, omega arith, q)
+      ]
+
+  -- one place more
+  pub least_more : (x y r : Option ℤ) → Least (FigureBelow figures k) x → y ≡ figures k → r ≡ lesser_of x y → Least (FigureBelow figures (k + 1)) r
+  least_more x y r least e l = subst (Least (FigureBelow figures (k + 1))) (sym l) (with_figure x y e least)
+
+-- all places
+pub least_all : (figures : ℕ → Option ℤ) (k all : ℕ) (x : Option ℤ) → k ≡ all → Least (FigureBelow figures k) x → Least (FigureBelow figures all) x
+least_all figures k all x e least = subst (λ (v : ℕ). Least (FigureBelow figures v) x) e least
+
 one_more : (Is Also : ℤ → Type 0) (y : ℤ) (ys : List ℤ) (x : Option ℤ) → Least Is x → ((v : Option ℤ) → Least (OrOneMore Is y) v → Least Also (reduce lesser (cons_option v ys))) → Least Also (reduce lesser (cons_option x (y ∷ ys)))
-one_more Is Also y ys None least on = on (Some y) (first_takes ◌≤ℤ◌ Is y ≤ℤ-transitive (omega (arith, ints)) None least (λ a e. absurd (none-some a e)))
-one_more Is Also y ys (Some a) least on = on (Some (lesser a y)) (least_with Is a y least)
+one_more Is Also y ys None least on = on (Some y) (least_with Is None y least)
+one_more Is Also y ys (Some a) least on = on (Some (lesser a y)) (least_with Is (Some a) y least)
 
 module _ {X : Type 0} (h : X → Option ℤ) (d : X) where
   -- an item of the list gives the figure

@@ -3,6 +3,7 @@ pub mod AreaParts
 pub mod BackwardPass
 pub mod CarriedSums
 pub mod Carrying
+pub mod CircuitPasses
 pub mod Circuits
 pub mod Figures
 pub mod FilledSlacks

@@ -1,13 +1,14 @@
 -- A row pruned from the worst step on: one turn more, at which the signal is taken off or left. Assumes nothing.
-use Rattle.std.proofs.Common.{◌≡◌, ℕ, ◌+◌, ◌-◌, ◌<◌, ◌≤◌, Bool, true, false, cond, ◌⊎◌, List, length, get_or, set, pos, Some, Option, sym, refl, ap, ◌∙◌, subst, inl, inr, arith}
+use Rattle.std.proofs.Common.{◌≡◌, ℕ, ◌+◌, ◌-◌, ◌<◌, ◌≤◌, Bool, true, false, cond, ◌⊎◌, List, length, get_or, set, pos, Some, None, Option, sym, refl, ap, ◌∙◌, subst, inl, inr, arith}
 use native.Mathlib.Decide.{ℕ_discrete}
 use Rattle.std.proofs.lemmas.Int.{ints}
 use Rattle.std.proofs.lemmas.List.{set-get_or}
+use Rattle.std.proofs.lemmas.Option.{none-some}
 use Rattle.units.specs.Senses.{Order, AsBad, late_order, early_order}
 use Rattle.units.specs.Senses as senses
 use Rattle.units.specs.Steps.{step_count, last_step}
 use Rattle.paths.specs.Signals.{Covers}
-use Rattle.paths.proofs.Covering.{as_bad_refl, covers_transitive}
+use Rattle.paths.proofs.Covering.{as_bad_refl, covers_refl, covers_transitive}
 use Rattle.timing.specs.declared.answers.SignalRecord.{SignalRecord}
 use Rattle.timing.specs.Areas.{place, record_at, no_signal}
 use Rattle.timing.specs.Offers.{Records, signal_of, turn_of, WorstAsBad, Pruned, RowPruned}
@@ -42,6 +43,19 @@ not_after o (inr early) u s = rw early (λ h. grind (arith, ints))
 pub record WorstBefore (o : Order) (n k : ℕ) (rows : Records) (worst : Option ℕ) : Type 0 where
   pub of_row : (w : ℕ) → worst ≡ Some w → (u : ℕ) × (u ≤ last_step) × (turn_of o u < k) × ((rows n u).kept ≡ true) × ((rows n u).time ≡ w)
   pub as_bad : (u : ℕ) → u ≤ last_step → turn_of o u < k → (rows n u).kept ≡ true → WorstAsBad o worst (rows n u).time
+
+-- before the first turn the row is as it was
+pub pruned_none : (o : Order) (L : senses.Lawful o) (n : ℕ) (A : Records) → RowPruned o n 0 A A
+pruned_none o L n A = record {
+  other_rows = λ h s ls ne. refl;
+  fewer = λ s ls. inl refl;
+  covered = λ s ls k. (s, ls, k, covers_refl o L (signal_of (A n s) s));
+  apart = λ s u ls lu lt. absurd (omega arith);
+}
+
+-- and there is no worst time
+pub worst_of_none : (o : Order) (n : ℕ) (A : Records) → WorstBefore o n 0 A None
+worst_of_none o n A = record { of_row = λ w e. absurd (none-some w e); as_bad = λ u lu lt. absurd (omega arith) }
 
 module _ (o : Order) (L : senses.Lawful o) (sense : (o ≡ late_order) ⊎ (o ≡ early_order)) (n s : ℕ) (ls : s ≤ last_step) (A B : Records) (worst : Option ℕ) (H : RowPruned o n (turn_of o s) A B) (W : WorstBefore o n (turn_of o s) B worst) where
   -- a step up to this turn is one before, or this one

@@ -1,6 +1,6 @@
 -- What going back from record to record keeps, and the path turned round. Assumes nothing.
-use Rattle.std.proofs.Common.{◌≡◌, ℕ, ◌+◌, ◌<◌, ◌≤◌, Bool, true, false, cond, List, [], ◌∷◌, ◌++◌, reverse, length, take, drop, set, Some, None, sym, refl, ap, ◌∙◌, subst, inl, inr, arith}
-use Rattle.std.proofs.lemmas.List.{take_more_set, reverse-append, length-reverse, length-take-le, get_or-set_other, take_at}
+use Rattle.std.proofs.Common.{◌≡◌, ℕ, ◌+◌, ◌-◌, ◌<◌, ◌≤◌, Bool, true, false, cond, List, [], ◌∷◌, ◌++◌, reverse, length, get_or, take, drop, set, Some, None, sym, refl, ap, ◌∙◌, subst, inl, inr, arith}
+use Rattle.std.proofs.lemmas.List.{take_more_set, reverse-append, length-reverse, length-take-le, get_or-set_other, take_at, get_or-append_right, get_or-drop}
 use Rattle.units.specs.Senses.{Order}
 use Rattle.units.specs.Steps.{last_step}
 use Rattle.models.specs.Meaning.{Meaning}
@@ -174,3 +174,10 @@ module _ (path front : List ℕ) (count : ℕ) (room : count ≤ length path) (e
 
   pub turned : take count (front ++ drop count path) ≡ reverse (take count path)
   turned = take_at front (drop count path) count long ∙ e
+
+  -- past the front the path stays
+  pub past_turned : (i : ℕ) → count ≤ i → get_or (front ++ drop count path) i 0 ≡ get_or path i 0
+  past_turned i h = get_or-append_right front (drop count path) count i 0 long h ∙ get_or-drop count path (i - count) 0 ∙ ap (λ (k : ℕ). get_or path k 0) (over i h)
+    where
+      over : (i : ℕ) → count ≤ i → count + (i - count) ≡ i
+      over i h = omega arith

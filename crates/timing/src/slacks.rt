@@ -29,15 +29,42 @@ fn net_slack<S: Sense>(signals: &[SignalRecord], required: &[i32], net: usize) -
         .min()
 }
 
+// The slack, if an entry can hold it.
+fn fitting(slack: i64) -> Option<i32> {
+    figure(i32::try_from(slack).ok()?)
+}
+
+// The least slack of a net among those that an entry can hold.
+fn least_fitting<S: Sense>(signals: &[SignalRecord], required: &[i32], net: usize) -> Option<i32>
+    requires signals { step_count * net + step_count ≤ length signals.now }
+    requires required { step_count * net + step_count ≤ length required.now }
+{
+    row(signals, net)
+        .iter()
+        .zip(row(required, net))
+        .filter_map(|(signal, required)| fitting(slack_of::<S>(*signal, figure(*required))?))
+        .min()
+}
+
+// The least slack of a net for its entry. Times and required times are so small that a slack always fits.
+fn held_slack<S: Sense>(signals: &[SignalRecord], required: &[i32], net: usize) -> Option<i32>
+    requires signals { step_count * net + step_count ≤ length signals.now }
+    requires required { step_count * net + step_count ≤ length required.now }
+{
+    let least = net_slack::<S>(signals, required, net)?;
+    match fitting(least) {
+        Some(least) => Some(least),
+        None => least_fitting::<S>(signals, required, net),
+    }
+}
+
 // Fills the slacks, one entry for each net.
 pub fn fill_slacks<S: Sense>(signals: &[SignalRecord], required: &[i32], slacks: &mut [i32])
     requires signals { step_count * length slacks.old ≤ length signals.now }
     requires required { step_count * length slacks.old ≤ length required.now }
 {
     for (net, slack) in slacks.iter_mut().enumerate() {
-        let least = net_slack::<S>(signals, required, net);
-        // Times and required times are so small that a slack always fits.
-        *slack = entry_of(least.and_then(|slack| i32::try_from(slack).ok()));
+        *slack = entry_of(held_slack::<S>(signals, required, net));
     }
 }
 

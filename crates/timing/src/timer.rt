@@ -87,7 +87,7 @@ pub fn time<M: DelayModel, S: Sense>(
     test_kinds(model, circuit)?;
     let carried = fill_figures::<M, S>(model, circuit, signals, required, slacks);
     let worst = worst_slack(&slacks[..circuit.nets.len()]);
-    let end = worst.and_then(|worst| end_of::<S>(circuit, signals, worst));
+    let end = worst.map(|worst| end_of::<S>(circuit, signals, worst).unwrap_or((0, 0)));
     let (start, arcs) = end.map_or(
         (0, 0),
         |(net, step)| trace(circuit, signals, net, step, path),

@@ -1,7 +1,7 @@
 use Rattle.std.proofs.Common.{◌≡◌, ◌≤◌, length, take, sym, ap, ◌∙◌, subst, arith, rules, length-take-le}
 use Rattle.paths.specs.Blocks.{Joined}
 use Rattle.paths.specs.Cycles.{TakenOff}
-use Rattle.network.specs.Sorting.{Counted}
+use Rattle.network.specs.Sorting.{placed_nets, Counted}
 use Rattle.network.proofs.EndCounts.{counted_heads}
 use Rattle.network.proofs.SortingSteps.{counted_front, placed_within, sorting_begins, taken_off, all_placed}
 use Rattle.network.proofs.netlist.Netlist.topological_order.Goals as goal
@@ -24,15 +24,22 @@ loop-at-smaller c =
     let within = placed_within _ _ _ _ _ c.loop-at.invariant.sorting in
     omega (arith, c.loop-at.invariant.count, c.loop-at-test.true, c.len-in-loop-at.ensures.value)
 
+pub of-requires-clause-within : goal.of-requires-clause-within
+of-requires-clause-within c =
+    let within = placed_within _ _ _ _ _ c.loop-at.invariant.sorting in
+    let long = ap length c.deref.ensures.0 in
+    omega arith
+
 pub returns-clause-off : goal.returns-clause-off
 returns-clause-off c =
     let arcs = c.args.self.now.arcs.items in
     let order = c.loop-at.order.items in
     let end : length order ≤ c.loop-at.at = omega (arith, c.len-in-loop-at.ensures.value) in
-    let placed : take c.len-placed.result c.append_unplaced.new.order.items ≡ order = ap (λ k. take k c.append_unplaced.new.order.items) c.len-placed.ensures.value ∙ c.append_unplaced.ensures.front in
+    let placed : placed_nets c.of.result ≡ order = cc in
     subst (TakenOff _ arcs) (sym placed) (subst (λ n. TakenOff n arcs order) c.loop-at.invariant.count (taken_off arcs _ _ order c.loop-at.invariant.sorting end))
 
 pub returns-clause-all_placed : goal.returns-clause-all_placed
 returns-clause-all_placed c = λ none.
     let end : length c.loop-at.order.items ≤ c.loop-at.at = omega (arith, c.len-in-loop-at.ensures.value) in
-    c.len-placed.ensures.value ∙ all_placed _ _ _ _ c.loop-at.invariant.sorting end _ c.lowest_unplaced.ensures none ∙ c.loop-at.invariant.count
+    let placed : c.of.result.placed ≡ length c.loop-at.order.items = cc in
+    placed ∙ all_placed _ _ _ _ c.loop-at.invariant.sorting end _ c.lowest_unplaced.ensures none ∙ c.loop-at.invariant.count
