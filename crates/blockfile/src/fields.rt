@@ -10,12 +10,13 @@ use crate::records::{
 use models::point::Point;
 use paths::blocks::{Launch, Net};
 
-// A field of a fixed length, and the bit that announces it.
+// A field of a fixed length, and the bit that announces it: one of the eight of a map.
 #[derive(Clone, Copy)]
 pub struct Field {
     bit: u8,
     len: usize,
-    ghost bit_fits: { 0 < bit },
+    ghost bit_stands: { 0 < bit },
+    ghost bit_fits: { 128 % bit ≡ 0 },
 }
 
 // The fields of a net, and the bits that they have.

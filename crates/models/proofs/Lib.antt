@@ -1,3 +1,4 @@
+pub mod FullModel
 pub mod MadeArrays
 pub mod ReachingPoints
 pub mod TestedPoints

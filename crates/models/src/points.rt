@@ -24,7 +24,8 @@ impl Points {
 
     // The points of a kind; none for a kind that is not held.
     pub fn points(&self, kind: u8) -> Option<&[Point]>
-        ensures { MatchOption result (length (kinds_in self.now) ≤ kind) (λ ps. (kind < length (kinds_in self.now)) × (ps.now ≡ slice_index_or (kinds_in self.now) kind [])) }
+        ensures means { ⟦<Points as DelayModel>⟧.meaning self.now ≡ points_meaning (kinds_in self.now) }
+        ensures given { MatchOption result (length (kinds_in self.now) ≤ kind) (λ ps. (kind < length (kinds_in self.now)) × (ps.now ≡ slice_index_or (kinds_in self.now) kind [])) }
     {
         Some(self.get(kind)?.points())
     }

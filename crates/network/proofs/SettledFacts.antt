@@ -1,7 +1,8 @@
 -- What the invariant of a settled network says of its cycles and its order. Assumes nothing.
-use Rattle.std.proofs.Common.{◌≡◌, ℕ, ◌<◌, List, length, Some, None, vec_items, Option, refl, ◌∙◌, arith, length-take-le}
+use Rattle.std.proofs.Common.{◌≡◌, ℕ, ◌<◌, List, length, Some, None, vec_items, Option, refl, ◌∙◌, subst, arith, length-take-le}
 use Rattle.std.proofs.lemmas.List.{get_or-take}
-use Rattle.paths.specs.Blocks.{head_of}
+use Rattle.paths.specs.declared.blocks.Arc.{Arc}
+use Rattle.paths.specs.Blocks.{Block, head_of, Joined}
 use Rattle.paths.specs.Cycles.{CycleAt, TakenOff}
 use Rattle.paths.specs.Orders.{Placed, Unplaced, Numbers, Whole, LowestUnplaced, TopologicalOrder}
 use Rattle.paths.proofs.TakingOff.{left_is_reachable, cycle_at}
@@ -12,6 +13,10 @@ use Rattle.network.specs.Sorting.{order_nets, placed_nets}
 lowest_of : (nets : ℕ) (order : List ℕ) (o : Option ℕ) → (o ≡ None → Whole nets order) → ((n : ℕ) → o ≡ Some n → (n < nets) × Unplaced order n) → ((n k : ℕ) → o ≡ Some n → k < n → Placed order k) → LowestUnplaced nets order o
 lowest_of nets order None whole left below = whole refl
 lowest_of nets order (Some n) whole left below = ((left n refl).0, (left n refl).1, λ k. below n k refl)
+
+pub found_cycle : (b : Block) (count : ℕ) (arcs : List Arc) (order : List ℕ) (o : Option ℕ) → count ≡ length b.nets → arcs ≡ b.arcs → Joined (length b.nets) b.arcs → TakenOff count arcs order → LowestUnplaced count order o → CycleAt b o
+found_cycle b count arcs order o ec ea joined off low =
+    cycle_at b order joined (subst (λ n. TakenOff n b.arcs order) ec (subst (λ l. TakenOff count l order) ea off)) o (subst (λ n. LowestUnplaced n order o) ec low)
 
 module _ (n : Network) where
   length_placed : length (placed_nets n.order) ≡ n.order.placed

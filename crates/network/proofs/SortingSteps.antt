@@ -6,10 +6,10 @@ use Rattle.std.proofs.lemmas.Bool.{cases_lt, and_from}
 use Rattle.std.proofs.lemmas.Bool.Decides.{nat_tests}
 use Rattle.paths.specs.declared.blocks.Arc.{Arc}
 use Rattle.paths.specs.Blocks.{tail_of, head_of, Joined}
-use Rattle.paths.specs.Orders.{place_of, Placed, Unplaced, Numbers, TailsFirst}
+use Rattle.paths.specs.Orders.{place_of, Placed, Unplaced, Numbers, TailsFirst, LowestUnplaced}
 use Rattle.paths.specs.Cycles.{TakenOff}
 use Rattle.paths.proofs.Places.{at_place, place_kept, place_new, place_other, once_push, numbers_push, none_past}
-use Rattle.network.specs.Sorting.{one_if, Counted, waits, waiting, zeros, SourcesPlaced, Sorting, LowestPending}
+use Rattle.network.specs.Sorting.{one_if, arcs_into, Counted, waits, waiting, zeros, SourcesPlaced, Sorting, LowestPending}
 use Rattle.network.proofs.Counting.{count_within, count_same, count_less, count_none, count_all, none_counted}
 use Rattle.network.proofs.Writes.{after_write}
 
@@ -263,6 +263,23 @@ module _ (arcs : List Arc) (at i : ℕ) (pending order : List ℕ) (joined : Joi
 pub zeros_within : (pending : List ℕ) (k : ℕ) → zeros pending k ≤ k
 zeros_within pending k = count_within (λ n. eqb (get_or pending n 0) 0) k
 
+-- an arc more is counted at its head
+
+pub counted_more : (arcs : List Arc) (k : ℕ) (pending : List ℕ) → head_of arcs k < length pending → Counted arcs k pending → Counted arcs (k + 1) (set pending (head_of arcs k) (get_or pending (head_of arcs k) 0 + 1))
+counted_more arcs k pending inside counted h lt =
+    after_write (λ n v. n < length pending → v ≡ arcs_into arcs n (k + 1)) pending (head_of arcs k) (get_or pending (head_of arcs k) 0 + 1) inside
+    (λ l. let before = counted (head_of arcs k) l in let up = one_more (head_of arcs k) in let own : one_if (eqb (head_of arcs k) (head_of arcs k)) ≡ 1 = ap one_if (eq-eqb (head_of arcs k) (head_of arcs k) refl) in omega arith)
+    (λ n ne l. let before = counted n l in let up = one_more n in let none : one_if (eqb (head_of arcs k) n) ≡ 0 = ap one_if (ne_eqb (head_of arcs k) n (λ q. ne (sym q))) in omega arith)
+    h (let long = length-set pending (head_of arcs k) (get_or pending (head_of arcs k) 0 + 1) in omega arith)
+  where
+    one_more : (n : ℕ) → arcs_into arcs n (k + 1) ≡ one_if (eqb (head_of arcs k) n) + arcs_into arcs n k
+    one_more n = let e : k + 1 ≡ suc k = omega arith in ap (arcs_into arcs n) e
+
+-- the nets that no arc leads into
+
+pub no_sources : (pending : List ℕ) → SourcesPlaced pending 0 []
+no_sources pending = record { numbers = λ k h. absurd (omega arith); once = λ k h. absurd (omega arith); placed = λ n h. absurd (omega arith); unplaced = λ n _. omega arith; full = refl }
+
 up_one : (pending : List ℕ) (k : ℕ) → zeros pending (k + 1) ≡ one_if (eqb (get_or pending k 0) 0) + zeros pending k
 up_one pending k = let e : k + 1 ≡ suc k = omega arith in ap (zeros pending) e
 
@@ -370,6 +387,10 @@ module _ (arcs : List Arc) (at : ℕ) (pending order : List ℕ) (S : Sorting ar
           ]) in
           let p = S.placed n lt (S.counted n lt ∙ none) in
           omega arith
+
+  pub lowest_left : (o : Option ℕ) → LowestPending pending o → LowestUnplaced (length pending) order o
+  lowest_left None none = λ n lt. S.placed n lt (none n lt)
+  lowest_left (Some n) (lt, pos, below) = (lt, S.unplaced n pos, λ k h. S.placed k (omega arith) (below k h))
 
   pub all_placed : (o : Option ℕ) → LowestPending pending o → o ≡ None → length order ≡ length pending
   all_placed None none e = S.full ∙ count_all (λ n. eqb (get_or pending n 0) 0) (length pending) (λ n lt. eq-eqb (get_or pending n 0) 0 (none n lt))

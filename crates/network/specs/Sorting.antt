@@ -5,7 +5,7 @@ use Rattle.paths.specs.Blocks.{tail_of, head_of}
 use Rattle.paths.specs.Orders.{place_of, Placed, Unplaced, Numbers, Once, TailsFirst}
 use Rattle.network.specs.declared.order.Order.{Order}
 
--- the nets of an order, and of these the ones that are placed
+-- the entries of an order, one for each net, and of these the nets that are placed
 abbrev pub order_nets : Order → List ℕ
 order_nets o = take o.count o.nets
 

@@ -1,10 +1,10 @@
 // A topological order of the nets: each arc's tail stands before its head.
-ghost use Rattle.std.specs.Prelude.{◌≡◌, ◌+◌, ◌<◌, ◌≤◌, length, take, None};
+ghost use Rattle.std.specs.Prelude.{◌≡◌, ◌+◌, ◌<◌, ◌≤◌, length, None};
 ghost use Rattle.paths.specs.Blocks.{max_nets};
 ghost use Rattle.paths.specs.Cycles.{TakenOff};
 ghost use Rattle.paths.specs.Orders.{Numbers, LowestUnplaced};
 ghost use Rattle.network.specs.FanOuts.{FansOut};
-ghost use Rattle.network.specs.Sorting.{order_nets, placed_nets, zeros, SourcesPlaced, Sorting, LowestPending};
+ghost use Rattle.network.specs.Sorting.{order_nets, placed_nets, SourcesPlaced, Sorting, LowestPending};
 
 use crate::counts::counts_by;
 use crate::fan_out::FanOut;

@@ -52,7 +52,7 @@ impl Network {
         self.netlist.arcs()
     }
 
-    // Every net: first those that `placed` lends.
+    // One entry for each net: first those that `placed` lends; past them it says nothing, but that it is the number of a net.
     pub fn order(&self) -> &[u16]
         ensures value { result.now ≡ order_nets self.now.order }
         ensures len { length result.now ≡ length self.now.netlist.nets.items }
